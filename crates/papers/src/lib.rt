@@ -1,9 +1,27 @@
-// Papers as rows of numbers.
+// Papers as rows of numbers: reading them from front to end, how deep they are, and why a row is none.
 //
-// A paper is a number, a list of papers, or a record of named papers. As a row of numbers it is `0 n`, `1 count papers..`
-// or `2 count (name paper)..`.
+// A paper is a number, a list of papers, or a record of named papers, by rising name. As a row of numbers it is `0 n`,
+// `1 count papers..` or `2 count (name paper)..`, every number, name and count below 2^32.
 
+mod entry;
+mod laws;
+mod reading;
 mod refusal;
+#[cfg(test)]
+mod tests;
 
+// A paper at the front of a row, and a row that is one paper.
+pub use entry::DEEPEST;
+pub use entry::read;
+pub use entry::read_front;
+pub use reading::Fault;
+pub use reading::Part;
+pub use reading::Why;
+// What is turned away, for all the crates above.
 pub use refusal::Refusal;
 pub use refusal::RefusalDisplay;
+// The laws of rows.
+pub use laws::only_written;
+pub use laws::prefix_free;
+pub use laws::round_trip;
+pub use laws::row_injective;

@@ -1,0 +1,20 @@
+use Prim.Native.Nat.{_+_, _*_, _-_}
+use lib.ListN.{length}
+use Rattle.papers.proofs.Steps.{List-left, Record-left}
+use Rattle.papers.proofs.reading.+read_list+read_paper+read_record.Given as given
+
+-- what is left of the row falls: twice it, so that the reading of a list or record stands between those of two papers
+abbrev pub μ-read-list : given.MeasureT-read-list
+μ-read-list l = 2 * length (l .row .now) + 1
+
+abbrev pub μ-read-paper : given.MeasureT-read-paper
+μ-read-paper l = 2 * length (l .row .now)
+
+abbrev pub μ-read-record : given.MeasureT-read-record
+μ-read-record l = 2 * length (l .row .now) + 1
+
+abbrev pub Inv-read-list-loop : given.InvT-read-list-loop
+Inv-read-list-loop l = List-left (l .levels) (l .end - l .counter) (l .deepest) (l .row) (l .rest)
+
+abbrev pub Inv-read-record-loop : given.InvT-read-record-loop
+Inv-read-record-loop l = Record-left (l .levels) (l .end - l .counter) (l .low) (l .deepest) (l .row) (l .rest)

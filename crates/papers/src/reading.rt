@@ -1,0 +1,147 @@
+// Reading a paper from the front of a part of a row: three functions that call each other, each over what is left of the
+// row, and each giving back the rest.
+ghost use Rattle.papers.specs.Paper.{deep, all-deep, fields-deep};
+ghost use Rattle.papers.specs.Reading.{into, number-from, read-list, read-record, read-paper};
+ghost use Rattle.papers.specs.Telling.{Told};
+
+// The starts of a number, a list and a record.
+const NUMBER: u64 = 0;
+
+const LIST: u64 = 1;
+
+const RECORD: u64 = 2;
+
+// Every number, name and count of a row is below this.
+const LIMIT: u64 = 0x1_0000_0000;
+
+#[derive(Clone, Copy, PartialEq, Debug)]
+pub enum Why {
+    // Cut short, an unknown start, a name that does not rise, or a number that is too large.
+    NoPaper,
+    // A paper begins one level below the deepest that is allowed.
+    Deeper,
+}
+
+// Why a reading failed, and how much of the row was left from the number at fault on.
+#[derive(Clone, Copy, PartialEq, Debug)]
+pub struct Fault {
+    pub why: Why,
+    pub left: usize,
+}
+
+// What a reading gave: a number, or how deep a paper is; and the rest of the row.
+#[derive(Clone, Copy, Debug)]
+pub struct Part<'a> {
+    pub value: u64,
+    pub rest: &'a [u64],
+}
+
+// The next number, at least `low` and below the limit.
+fn number_from(row: &[u64], low: u64) -> Result<Part<'_>, Fault>
+    ensures { λ r. ⌜ Told (number-from low (now (row .entry))) r ⌝ }
+{
+    let left = row.len();
+    let [value, rest @ ..] = row else {
+        return Err(Fault {
+            why: Why::NoPaper,
+            left,
+        });
+    };
+    if *value < low || *value >= LIMIT {
+        return Err(Fault {
+            why: Why::NoPaper,
+            left,
+        });
+    }
+    Ok(Part {
+        value: *value,
+        rest,
+    })
+}
+
+// A paper that is at most `levels` deep: its depth and the rest.
+pub fn read_paper(row: &[u64], levels: u64) -> Result<Part<'_>, Fault>
+    ensures { λ r. ⌜ Told (into deep (read-paper levels (now (row .entry)))) r ⌝ }
+{
+    let left = row.len();
+    let [start, rest @ ..] = row else {
+        return Err(Fault {
+            why: Why::NoPaper,
+            left,
+        });
+    };
+    if *start > RECORD {
+        return Err(Fault {
+            why: Why::NoPaper,
+            left,
+        });
+    }
+    if levels == 0 {
+        return Err(Fault {
+            why: Why::Deeper,
+            left,
+        });
+    }
+    match *start {
+        NUMBER => {
+            let number = number_from(rest, 0)?;
+            Ok(Part {
+                value: 1,
+                rest: number.rest,
+            })
+        }
+        LIST => {
+            let papers = read_list(rest, levels - 1)?;
+            Ok(Part {
+                value: papers.value + 1,
+                rest: papers.rest,
+            })
+        }
+        _ => {
+            let fields = read_record(rest, levels - 1)?;
+            Ok(Part {
+                value: fields.value + 1,
+                rest: fields.rest,
+            })
+        }
+    }
+}
+
+// The papers of a list behind its start, how many and each: the depth of the deepest, 0 if there is none, and the rest.
+fn read_list(row: &[u64], levels: u64) -> Result<Part<'_>, Fault>
+    ensures { λ r. ⌜ Told (into all-deep (read-list (read-paper levels) (now (row .entry)))) r ⌝ }
+{
+    let count = number_from(row, 0)?;
+    let mut deepest = 0u64;
+    let mut rest = count.rest;
+    for _ in 0..count.value {
+        let paper = read_paper(rest, levels)?;
+        deepest = deepest.max(paper.value);
+        rest = paper.rest;
+    }
+    Ok(Part {
+        value: deepest,
+        rest,
+    })
+}
+
+// The fields of a record behind its start, by rising name: the depth of the deepest, 0 if there is none, and the rest.
+fn read_record(row: &[u64], levels: u64) -> Result<Part<'_>, Fault>
+    ensures { λ r. ⌜ Told (into fields-deep (read-record (read-paper levels) (now (row .entry)))) r ⌝ }
+{
+    let count = number_from(row, 0)?;
+    let mut deepest = 0u64;
+    let mut rest = count.rest;
+    let mut low = 0;
+    for _ in 0..count.value {
+        let name = number_from(rest, low)?;
+        let paper = read_paper(name.rest, levels)?;
+        deepest = deepest.max(paper.value);
+        rest = paper.rest;
+        low = name.value + 1;
+    }
+    Ok(Part {
+        value: deepest,
+        rest,
+    })
+}

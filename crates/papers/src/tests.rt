@@ -1,0 +1,102 @@
+// Rows that are papers, and rows that are none with the number and place told.
+use crate::DEEPEST;
+use crate::Refusal;
+use crate::read;
+use crate::read_front;
+use crate::reading::Why;
+use std::test::*;
+
+// The row is a paper, so deep.
+fn is_deep(row: &[u64], depth: u64) -> Result<(), Fail> {
+    check_eq(read(row).ok(), Some(depth))
+}
+
+// The row is turned away with this refusal.
+fn is_refused(row: &[u64], refusal: Refusal) -> Result<(), Fail> {
+    check_eq(read(row).err(), Some(refusal))
+}
+
+#[test]
+fn shapes() -> Result<(), Fail> {
+    is_deep(&[0, 7], 1)?;
+    is_deep(&[0, 4294967295], 1)?;
+    is_deep(&[1, 0], 1)?;
+    is_deep(&[2, 0], 1)?;
+    is_deep(&[1, 2, 0, 5, 1, 0], 2)?;
+    is_deep(&[2, 2, 1, 0, 5, 4294967295, 1, 1, 2, 0], 3)?;
+    is_deep(&[1, 3, 1, 1, 0, 1, 0, 2, 2, 0], 3)
+}
+
+#[test]
+fn cut_short() -> Result<(), Fail> {
+    is_refused(&[], Refusal::NotPaper(0))?;
+    is_refused(&[0], Refusal::NotPaper(1))?;
+    is_refused(&[1], Refusal::NotPaper(1))?;
+    is_refused(&[1, 2, 0, 5], Refusal::NotPaper(4))?;
+    is_refused(&[2, 1], Refusal::NotPaper(2))?;
+    is_refused(&[2, 1, 9], Refusal::NotPaper(3))?;
+    is_refused(&[1, 4294967295, 0, 1], Refusal::NotPaper(4))
+}
+
+#[test]
+fn damaged() -> Result<(), Fail> {
+    is_refused(&[3, 0], Refusal::NotPaper(0))?;
+    is_refused(&[1, 1, 3], Refusal::NotPaper(2))?;
+    is_refused(&[0, 4294967296], Refusal::NotPaper(1))?;
+    is_refused(&[1, 4294967296], Refusal::NotPaper(1))?;
+    is_refused(&[2, 4294967296], Refusal::NotPaper(1))?;
+    is_refused(&[2, 1, 4294967296, 0, 1], Refusal::NotPaper(2))?;
+    is_refused(&[2, 2, 3, 0, 1, 3, 0, 1], Refusal::NotPaper(5))?;
+    is_refused(&[2, 2, 3, 0, 1, 2, 0, 1], Refusal::NotPaper(5))?;
+    is_refused(&[0, 7, 0], Refusal::NotPaper(2))
+}
+
+// 255 lists of one and a number are 256 deep; one list more is too deep.
+#[test]
+fn depth() -> Result<(), Fail> {
+    let mut row = [1u64; 514];
+    row[510] = 0;
+    is_deep(&row[0..512], DEEPEST)?;
+    row[510] = 1;
+    row[512] = 0;
+    is_refused(&row, Refusal::TooDeep(512))?;
+    // At the level that is too deep the row ends, or no paper could begin.
+    is_refused(&row[0..512], Refusal::NotPaper(512))?;
+    row[512] = 3;
+    is_refused(&row, Refusal::NotPaper(512))
+}
+
+#[test]
+fn fronts() -> Result<(), Fail> {
+    let row = [1, 1, 0, 5, 0, 6];
+    let Ok(part) = read_front(&row, 2) else {
+        return Err(Fail::new("the front is a paper"));
+    };
+    check_eq(part.value, 2)?;
+    check_eq(part.rest.len(), 2)?;
+    let Err(fault) = read_front(&row, 1) else {
+        return Err(Fail::new("the front is too deep"));
+    };
+    check_eq(fault.why, Why::Deeper)?;
+    check_eq(fault.left, 4)
+}
+
+#[test]
+fn numbers_and_places() -> Result<(), Fail> {
+    let all = [
+        Refusal::FirstForm(10),
+        Refusal::SecondForm(20),
+        Refusal::NoKind(30),
+        Refusal::NoRoom(40),
+        Refusal::NotPaper(50),
+        Refusal::TooDeep(60),
+        Refusal::BadNode(70),
+    ];
+    let mut number = 0u64;
+    for refusal in &all {
+        check_eq(refusal.place(), refusal.number().saturating_mul(10))?;
+        check(refusal.number() > number)?;
+        number = refusal.number();
+    }
+    check_eq(number, 7)
+}
