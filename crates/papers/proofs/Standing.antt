@@ -33,15 +33,15 @@ record Fields-stand (n c low : ℕ) (xs : List ℕ) (fs : Fields) (rest : List �
 abbrev Reads : ℕ → (List ℕ → Outcome Paper) → Type 0
 Reads n rd = (xs : List ℕ) (d : Paper) (rest : List ℕ) → rd xs ≡ done d rest → Stands n xs d rest
 
-one-stands : (n c : ℕ) (xs mid rest : List ℕ) (d : Paper) (ds : Papers) → Stands n xs d mid → All-stand n c mid ds rest → All-stand n (suc c) xs (item d ds) rest
+one-stands : (n c : ℕ) (xs mid rest : List ℕ) (d : Paper) (ds es : Papers) → item d ds ≡ es → Stands n xs d mid → All-stand n c mid ds rest → All-stand n (suc c) xs es rest
 unfolding count row-of well fits deep
-one-stands n c xs mid rest d ds p q = record {
+one-stands n c xs mid rest d ds es same p q = subst (λ all. All-stand n (suc c) xs all rest) same (record {
   row = p .row ∙ ap (λ l. row-of d ++ l) (q .row) ∙ sym (append-assoc (row-of d) (rows-of ds) rest);
   many = ap suc (q .many);
   good = and-from (well d) (all-well ds) (p .good) (q .good);
   small = and-from (fits d) (all-fit ds) (p .small) (q .small);
   flat = omega (arith, p .flat, q .flat);
-}
+})
 
 items-read : (n : ℕ) (rd : List ℕ → Outcome Paper) → Reads n rd → (c : ℕ) (xs : List ℕ) (ds : Papers) (rest : List ℕ) → read-items rd c xs ≡ done ds rest → All-stand n c xs ds rest
 unfolding read-items count row-of well fits deep
@@ -52,19 +52,18 @@ items-read n rd h zero xs ds rest e =
 items-read n rd h (suc c) xs ds rest e =
     let p = then-done (rd xs) (λ d later. into (item d) (read-items rd c later)) ds rest e in
     let q = into-done (item (p .0)) (read-items rd c (p .1)) ds rest (p .3) in
-    subst (λ es. All-stand n (suc c) xs es rest) (q .2)
-    (one-stands n c xs (p .1) rest (p .0) (q .0) (h xs (p .0) (p .1) (p .2)) (items-read n rd h c (p .1) (q .0) rest (q .1)))
+    one-stands n c xs (p .1) rest (p .0) (q .0) ds (q .2) (h xs (p .0) (p .1) (p .2)) (items-read n rd h c (p .1) (q .0) rest (q .1))
 
-field-stands : (n c low x : ℕ) (xs after mid rest : List ℕ) (d : Paper) (fs : Fields) → (xs ≡ x ∷ after) × (low ≤ x) × (x < limit) → Stands n after d mid → Fields-stand n c (suc x) mid fs rest → Fields-stand n (suc c) low xs (field x d fs) rest
+field-stands : (n c low x : ℕ) (xs after mid rest : List ℕ) (d : Paper) (fs gs : Fields) → field x d fs ≡ gs → (xs ≡ x ∷ after) × (low ≤ x) × (x < limit) → Stands n after d mid → Fields-stand n c (suc x) mid fs rest → Fields-stand n (suc c) low xs gs rest
 unfolding size row-of well fits deep
-field-stands n c low x xs after mid rest d fs k p q = record {
+field-stands n c low x xs after mid rest d fs gs same k p q = subst (λ all. Fields-stand n (suc c) low xs all rest) same (record {
   row = k .0 ∙ ap (λ l. x ∷ l) (p .row ∙ ap (λ l. row-of d ++ l) (q .row) ∙ sym (append-assoc (row-of d) (field-rows fs) rest));
   many = ap suc (q .many);
   first = le-leb low x (k .1);
   good = and-from (after-all x fs) (well d && fields-well fs) (after-from x fs (q .first)) (and-from (well d) (fields-well fs) (p .good) (q .good));
   small = and-from (ltb x limit) (fits d && fields-fit fs) (lt-ltb x limit (k .2)) (and-from (fits d) (fields-fit fs) (p .small) (q .small));
   flat = omega (arith, p .flat, q .flat);
-}
+})
 
 fields-read : (n : ℕ) (rd : List ℕ → Outcome Paper) → Reads n rd → (c low : ℕ) (xs : List ℕ) (fs : Fields) (rest : List ℕ) → read-fields rd c low xs ≡ done fs rest → Fields-stand n c low xs fs rest
 unfolding read-fields size row-of well fits deep
@@ -76,8 +75,7 @@ fields-read n rd h (suc c) low xs fs rest e =
     let k = then-done (number-from low xs) (λ x after. then (rd after) (λ d later. into (field x d) (read-fields rd c (suc x) later))) fs rest e in
     let p = then-done (rd (k .1)) (λ d later. into (field (k .0) d) (read-fields rd c (suc (k .0)) later)) fs rest (k .3) in
     let q = into-done (field (k .0) (p .0)) (read-fields rd c (suc (k .0)) (p .1)) fs rest (p .3) in
-    subst (λ es. Fields-stand n (suc c) low xs es rest) (q .2)
-    (field-stands n c low (k .0) xs (k .1) (p .1) rest (p .0) (q .0) (number-read low xs (k .0) (k .1) (k .2)) (h (k .1) (p .0) (p .1) (p .2)) (fields-read n rd h c (suc (k .0)) (p .1) (q .0) rest (q .1)))
+    field-stands n c low (k .0) xs (k .1) (p .1) rest (p .0) (q .0) fs (q .2) (number-read low xs (k .0) (k .1) (k .2)) (h (k .1) (p .0) (p .1) (p .2)) (fields-read n rd h c (suc (k .0)) (p .1) (q .0) rest (q .1))
 
 number-stands : (n : ℕ) (xs : List ℕ) (d : Paper) (rest : List ℕ) → into num (number-from 0 xs) ≡ done d rest → Stands (suc n) (0 ∷ xs) d rest
 unfolding row-of well fits deep

@@ -4,7 +4,6 @@ use mathlib.Core.Bool.{Bool, true, false, _&&_, cond}
 use mathlib.Core.List.{List, [], _∷_, _++_}
 use mathlib.Core.Logic.{_⊎_, inl, inr}
 use Prim.Native.Nat.{ℕ, zero, suc, max, _+_, _-_, _≤_, _<_}
-use native.Mathlib.Numerals.{add-one}
 use native.Mathlib.Omega.{arith}
 use lib.Dec.{leb, ltb}
 use lib.ListN.{length, getD, take, drop}
@@ -12,6 +11,8 @@ use Rattle.std.proofs.shelf.Lists.{take-rest, length-append}
 use Rattle.std.proofs.shelf.Tests.{lt-leb, le-ltb, and-left, and-right, cond-false}
 use Rattle.std.specs.declared.result.Result.{Result}
 use Rattle.std.specs.declared.result.Result.the-variants.{Ok, Err}
+use Rattle.std.specs.Results.{ErrBy}
+use Rattle.std.proofs.shelf.Results.{err-from-errBy}
 use Rattle.papers.specs.declared.reading.Fault.{Fault}
 use Rattle.papers.specs.declared.reading.Part.{Part}
 use Rattle.papers.specs.Telling.{Told}
@@ -141,16 +142,16 @@ name-fails n k m low s row rest w left j h e =
     h .same ∙ ap (λ i. into (deeper-field s) (read-fields (read-paper n) i low rest)) j
     ∙ ap (λ o. into (deeper-field s) (then o (λ y later. then (read-paper n later) (λ d last. into (field y d) (read-fields (read-paper n) m (suc y) last))))) e
 
-pub record-goes-on : (n k m low s x v u : ℕ) (row rest after later : List ℕ) → k ≡ suc m → u ≡ max s v → Record-left n k low s row rest → number-from low rest ≡ done x after → into deep (read-paper n after) ≡ done v later → Record-left n m (x + 1) u row later
+pub record-goes-on : (n k m low next s x v u : ℕ) (row rest after later : List ℕ) → k ≡ suc m → next ≡ suc x → u ≡ max s v → Record-left n k low s row rest → number-from low rest ≡ done x after → into deep (read-paper n after) ≡ done v later → Record-left n m next u row later
 unfolding field-then deep
-record-goes-on n k m low s x v u row rest after later j d h e f =
+record-goes-on n k m low next s x v u row rest after later j g d h e f =
     let p = into-done deep (read-paper n after) v later f in
     record {
       same = named n k m low s x row rest after j h e
           ∙ ap (λ o. into (deeper-field s) (then o (λ d last. into (field x d) (read-fields (read-paper n) m (suc x) last)))) (p .1)
           ∙ into-into (field x (p .0)) (deeper-field s) (read-fields (read-paper n) m (suc x) later)
           ∙ into-same (λ fs. deeper-field s (field x (p .0) fs)) (deeper-field u) (λ fs. omega (arith, p .2)) (read-fields (read-paper n) m (suc x) later)
-          ∙ ap (λ i. into (deeper-field u) (read-fields (read-paper n) m i later)) (sym (add-one x));
+          ∙ ap (λ i. into (deeper-field u) (read-fields (read-paper n) m i later)) (sym g);
       shorter = omega (arith, h .shorter, number-shortens low rest x after e, paper-shortens n after v later f);
     }
 
@@ -200,26 +201,23 @@ record-paper : (n : ℕ) (xs : List ℕ) → into deep (read-paper (suc n) (2 �
 unfolding read-paper deep
 record-paper n xs = into-into fields deep (read-record (read-paper n) xs) ∙ sym (into-into fields-deep suc (read-record (read-paper n) xs))
 
--- a row that begins with a number s and allows n levels, as the code takes it apart
-opened : (n s : ℕ) (xs : List ℕ) → 0 < n → 0 < length xs → getD xs 0 0 ≡ s → (P : ℕ → List ℕ → ℕ → List ℕ → Type 0) → ((m : ℕ) (ys : List ℕ) → P (suc m) (s ∷ ys) m ys) → P n xs (n - 1) (rest-of xs)
-opened zero s xs p h z P k = absurd (omega arith)
-opened (suc n) s [] p h z P k = absurd (omega arith)
-opened (suc n) s (x ∷ xs) p h z P k =
-    let back : suc n - 1 ≡ n = omega arith in
-    subst (λ y. P (suc n) (y ∷ xs) (suc n - 1) (rest-of (y ∷ xs))) (sym z)
-    (subst (λ m. P (suc n) (s ∷ xs) m (rest-of (s ∷ xs))) (sym back)
-    (subst (λ l. P (suc n) (s ∷ xs) n l) (sym (take-rest (s ∷ xs) 1)) (k n xs)))
+-- what holds of a row that begins with the number s, of the levels allowed and those below, and of the rest of the row
+opened : (n m s : ℕ) (xs : List ℕ) → suc m ≡ n → 0 < length xs → getD xs 0 0 ≡ s → (P : ℕ → List ℕ → List ℕ → Type 0) → ((ys : List ℕ) → P (suc m) (s ∷ ys) ys) → P n xs (rest-of xs)
+opened n m s [] l h z P k = absurd (omega arith)
+opened n m s (x ∷ xs) l h z P k =
+    subst (λ i. P i (x ∷ xs) (rest-of (x ∷ xs))) l
+    (subst (λ y. P (suc m) (y ∷ xs) (rest-of (y ∷ xs))) (sym z) (subst (P (suc m) (s ∷ xs)) (sym (take-rest (s ∷ xs) 1)) (k xs)))
 
--- a paper's depth from that of what is in it
-pub number-inside : (n : ℕ) (xs : List ℕ) → 0 < n → 0 < length xs → getD xs 0 0 ≡ 0 → into deep (read-paper n xs) ≡ into flat (number-from 0 (rest-of xs))
+-- a paper's depth from the outcome of what is in it
+pub number-inside : (n m : ℕ) (xs : List ℕ) (o : Outcome ℕ) → number-from 0 (rest-of xs) ≡ o → suc m ≡ n → 0 < length xs → getD xs 0 0 ≡ 0 → into deep (read-paper n xs) ≡ into flat o
 unfolding read-paper deep
-number-inside n xs p h z = opened n 0 xs p h z (λ k ys m zs. into deep (read-paper k ys) ≡ into flat (number-from 0 zs)) (λ m ys. into-into num deep (number-from 0 ys))
+number-inside n m xs o e l h z = opened n m 0 xs l h z (λ k ys zs. into deep (read-paper k ys) ≡ into flat (number-from 0 zs)) (λ ys. into-into num deep (number-from 0 ys)) ∙ ap (into flat) e
 
-pub list-inside : (n : ℕ) (xs : List ℕ) → 0 < n → 0 < length xs → getD xs 0 0 ≡ 1 → into deep (read-paper n xs) ≡ into suc (into all-deep (read-list (read-paper (n - 1)) (rest-of xs)))
-list-inside n xs p h z = opened n 1 xs p h z (λ k ys m zs. into deep (read-paper k ys) ≡ into suc (into all-deep (read-list (read-paper m) zs))) list-paper
+pub list-inside : (n m : ℕ) (xs : List ℕ) (o : Outcome ℕ) → into all-deep (read-list (read-paper m) (rest-of xs)) ≡ o → suc m ≡ n → 0 < length xs → getD xs 0 0 ≡ 1 → into deep (read-paper n xs) ≡ into suc o
+list-inside n m xs o e l h z = opened n m 1 xs l h z (λ k ys zs. into deep (read-paper k ys) ≡ into suc (into all-deep (read-list (read-paper m) zs))) (list-paper m) ∙ ap (into suc) e
 
-pub record-inside : (n : ℕ) (xs : List ℕ) → 0 < n → 0 < length xs → getD xs 0 0 ≡ 2 → into deep (read-paper n xs) ≡ into suc (into fields-deep (read-record (read-paper (n - 1)) (rest-of xs)))
-record-inside n xs p h z = opened n 2 xs p h z (λ k ys m zs. into deep (read-paper k ys) ≡ into suc (into fields-deep (read-record (read-paper m) zs))) record-paper
+pub record-inside : (n m : ℕ) (xs : List ℕ) (o : Outcome ℕ) → into fields-deep (read-record (read-paper m) (rest-of xs)) ≡ o → suc m ≡ n → 0 < length xs → getD xs 0 0 ≡ 2 → into deep (read-paper n xs) ≡ into suc o
+record-inside n m xs o e l h z = opened n m 2 xs l h z (λ k ys zs. into deep (read-paper k ys) ≡ into suc (into fields-deep (read-record (read-paper m) zs))) (record-paper m) ∙ ap (into suc) e
 
 -- what is read is no deeper than allowed
 pub paper-flat : (n : ℕ) (xs : List ℕ) (v : ℕ) (rest : List ℕ) → into deep (read-paper n xs) ≡ done v rest → v ≤ n
@@ -228,8 +226,10 @@ paper-flat n xs v rest e =
     omega (arith, p .2, paper-read n xs (p .0) rest (p .1) .flat)
 
 -- a fault of a part is handed on as it is
-pub hands-on : (o : Outcome ℕ) (r : Result Part Fault) (y f : Fault) → r ≡ Err y → y ≡ f → Told o (Err f) → Told o r
-hands-on o r y f p q h = subst (Told o) (sym (p ∙ ap Err q)) h
+pub hands-on : (o : Outcome ℕ) (r : Result Part Fault) (f : Fault) → ErrBy r (λ y. y ≡ f) → Told o (Err f) → Told o r
+hands-on o r f e h =
+    let p = err-from-errBy r e in
+    subst (Told o) (sym (p .1 ∙ ap Err (p .2))) h
 
 pub name-below : (low : ℕ) (xs : List ℕ) (v : ℕ) (rest : List ℕ) → number-from low xs ≡ done v rest → v < limit
 name-below low xs v rest e = number-read low xs v rest e .2

@@ -14,7 +14,7 @@ const RECORD: u64 = 2;
 // Every number, name and count of a row is below this.
 const LIMIT: u64 = 0x1_0000_0000;
 
-#[derive(Clone, Copy, PartialEq, Debug)]
+#[derive(Clone, Copy)]
 pub enum Why {
     // Cut short, an unknown start, a name that does not rise, or a number that is too large.
     NoPaper,
@@ -23,14 +23,14 @@ pub enum Why {
 }
 
 // Why a reading failed, and how much of the row was left from the number at fault on.
-#[derive(Clone, Copy, PartialEq, Debug)]
+#[derive(Clone, Copy)]
 pub struct Fault {
     pub why: Why,
     pub left: usize,
 }
 
 // What a reading gave: a number, or how deep a paper is; and the rest of the row.
-#[derive(Clone, Copy, Debug)]
+#[derive(Clone, Copy)]
 pub struct Part<'a> {
     pub value: u64,
     pub rest: &'a [u64],
@@ -135,9 +135,9 @@ fn read_record(row: &[u64], levels: u64) -> Result<Part<'_>, Fault>
     let mut low = 0;
     for _ in 0..count.value {
         let name = number_from(rest, low)?;
-        let paper = read_paper(name.rest, levels)?;
-        deepest = deepest.max(paper.value);
-        rest = paper.rest;
+        let inner = read_paper(name.rest, levels)?;
+        deepest = deepest.max(inner.value);
+        rest = inner.rest;
         low = name.value + 1;
     }
     Ok(Part {

@@ -4,66 +4,91 @@ use crate::Refusal;
 use crate::read;
 use crate::read_front;
 use crate::reading::Why;
+use crate::refusal::RefusalDebug;
+use crate::refusal::RefusalPartialEq;
 use std::test::*;
 
-// The row is a paper, so deep.
-fn is_deep(row: &[u64], depth: u64) -> Result<(), Fail> {
-    check_eq(read(row).ok(), Some(depth))
+// Each row is a paper, so deep.
+fn are_deep(rows: &[(&[u64], u64)]) -> Result<(), Fail> {
+    for (row, depth) in rows {
+        check_eq(read(row).ok(), Some(*depth))?;
+    }
+    Ok(())
 }
 
-// The row is turned away with this refusal.
-fn is_refused(row: &[u64], refusal: Refusal) -> Result<(), Fail> {
-    check_eq(read(row).err(), Some(refusal))
+// Each row is turned away with this refusal.
+fn are_refused(rows: &[(&[u64], Refusal)]) -> Result<(), Fail> {
+    for (row, refusal) in rows {
+        check_eq(read(row).err(), Some(*refusal))?;
+    }
+    Ok(())
 }
 
 #[test]
 fn shapes() -> Result<(), Fail> {
-    is_deep(&[0, 7], 1)?;
-    is_deep(&[0, 4294967295], 1)?;
-    is_deep(&[1, 0], 1)?;
-    is_deep(&[2, 0], 1)?;
-    is_deep(&[1, 2, 0, 5, 1, 0], 2)?;
-    is_deep(&[2, 2, 1, 0, 5, 4294967295, 1, 1, 2, 0], 3)?;
-    is_deep(&[1, 3, 1, 1, 0, 1, 0, 2, 2, 0], 3)
+    are_deep(
+        &[
+            (&[0, 7], 1),
+            (&[0, 4294967295], 1),
+            (&[1, 0], 1),
+            (&[2, 0], 1),
+            (&[1, 2, 0, 5, 1, 0], 2),
+            (&[2, 2, 1, 0, 5, 4294967295, 1, 1, 2, 0], 3),
+            (&[1, 3, 1, 1, 0, 1, 0, 2, 2, 0], 3),
+        ],
+    )
 }
 
 #[test]
 fn cut_short() -> Result<(), Fail> {
-    is_refused(&[], Refusal::NotPaper(0))?;
-    is_refused(&[0], Refusal::NotPaper(1))?;
-    is_refused(&[1], Refusal::NotPaper(1))?;
-    is_refused(&[1, 2, 0, 5], Refusal::NotPaper(4))?;
-    is_refused(&[2, 1], Refusal::NotPaper(2))?;
-    is_refused(&[2, 1, 9], Refusal::NotPaper(3))?;
-    is_refused(&[1, 4294967295, 0, 1], Refusal::NotPaper(4))
+    are_refused(
+        &[
+            (&[], Refusal::NotPaper(0)),
+            (&[0], Refusal::NotPaper(1)),
+            (&[1], Refusal::NotPaper(1)),
+            (&[1, 2, 0, 5], Refusal::NotPaper(4)),
+            (&[2, 1], Refusal::NotPaper(2)),
+            (&[2, 1, 9], Refusal::NotPaper(3)),
+            (&[1, 4294967295, 0, 1], Refusal::NotPaper(4)),
+        ],
+    )
 }
 
 #[test]
 fn damaged() -> Result<(), Fail> {
-    is_refused(&[3, 0], Refusal::NotPaper(0))?;
-    is_refused(&[1, 1, 3], Refusal::NotPaper(2))?;
-    is_refused(&[0, 4294967296], Refusal::NotPaper(1))?;
-    is_refused(&[1, 4294967296], Refusal::NotPaper(1))?;
-    is_refused(&[2, 4294967296], Refusal::NotPaper(1))?;
-    is_refused(&[2, 1, 4294967296, 0, 1], Refusal::NotPaper(2))?;
-    is_refused(&[2, 2, 3, 0, 1, 3, 0, 1], Refusal::NotPaper(5))?;
-    is_refused(&[2, 2, 3, 0, 1, 2, 0, 1], Refusal::NotPaper(5))?;
-    is_refused(&[0, 7, 0], Refusal::NotPaper(2))
+    are_refused(
+        &[
+            (&[3, 0], Refusal::NotPaper(0)),
+            (&[1, 1, 3], Refusal::NotPaper(2)),
+            (&[0, 4294967296], Refusal::NotPaper(1)),
+            (&[1, 4294967296], Refusal::NotPaper(1)),
+            (&[2, 4294967296], Refusal::NotPaper(1)),
+            (&[2, 1, 4294967296, 0, 1], Refusal::NotPaper(2)),
+            (&[2, 2, 3, 0, 1, 3, 0, 1], Refusal::NotPaper(5)),
+            (&[2, 2, 3, 0, 1, 2, 0, 1], Refusal::NotPaper(5)),
+            (&[0, 7, 0], Refusal::NotPaper(2)),
+        ],
+    )
 }
 
 // 255 lists of one and a number are 256 deep; one list more is too deep.
 #[test]
 fn depth() -> Result<(), Fail> {
     let mut row = [1u64; 514];
-    row[510] = 0;
-    is_deep(&row[0..512], DEEPEST)?;
-    row[510] = 1;
     row[512] = 0;
-    is_refused(&row, Refusal::TooDeep(512))?;
-    // At the level that is too deep the row ends, or no paper could begin.
-    is_refused(&row[0..512], Refusal::NotPaper(512))?;
-    row[512] = 3;
-    is_refused(&row, Refusal::NotPaper(512))
+    let mut flatter = row;
+    flatter[510] = 0;
+    let mut unknown = row;
+    unknown[512] = 3;
+    are_deep(&[(&flatter[0..512], DEEPEST)])?;
+    // At the level that is too deep a paper begins, or the row ends, or no paper could begin.
+    are_refused(
+        &[
+            (&row, Refusal::TooDeep(512)),
+            (&row[0..512], Refusal::NotPaper(512)),
+            (&unknown, Refusal::NotPaper(512)),
+        ],
+    )
 }
 
 #[test]
@@ -77,7 +102,7 @@ fn fronts() -> Result<(), Fail> {
     let Err(fault) = read_front(&row, 1) else {
         return Err(Fail::new("the front is too deep"));
     };
-    check_eq(fault.why, Why::Deeper)?;
+    check(matches!(fault.why, Why::Deeper))?;
     check_eq(fault.left, 4)
 }
 

@@ -1,3 +1,4 @@
+use native.Mathlib.Omega.{arith}
 use Rattle.papers.proofs.Answering.{row-told, turned-away}
 use Rattle.papers.proofs.entry.read.Needs as need
 
@@ -7,4 +8,4 @@ returns-in-Ok c = row-told (c .args .row .now) (c .in-Ok .paper .value) (c .in-O
 pub returns-in-Err : need.returns-in-Err
 returns-in-Err c =
     let h = c .in-Err .ensures tt in
-    turned-away (c .args .row .now) (c .in-Err .fault .why) (h .0) (c .in-Err .fault .left) (c .refusal .result) (h .1) (h .2) (c .refusal .ensures .number) (c .refusal .ensures .place)
+    turned-away (c .args .row .now) (c .in-Err .fault .why) (h .0) (c .in-Err .fault .left) (c .refusal .result) (h .1) (h .2) (c .refusal .ensures .number) (omega (arith, c .refusal .ensures .place))

@@ -1,15 +1,13 @@
 use mathlib.Core.Path.{refl}
 use borrow.Author.Needs.{needs}
-use Rattle.std.proofs.shelf.Results.{err-from-errBy}
 use Rattle.papers.proofs.Steps.{hands-on}
 use Rattle.papers.proofs.Answering.{whole-fails, whole-behind, whole-alone}
 use Rattle.papers.proofs.entry.read_whole.Needs as need
 
 pub returns-in-Break-paper : need.returns-in-Break-paper
 returns-in-Break-paper c =
-    let p = err-from-errBy (c .from-residual .result) (c .from-residual .ensures .1) in
     let h = c .in-Break-paper .ensures tt in
-    hands-on _ (c .from-residual .result) (p .0) (c .in-Break-paper .field-0 .0) (p .1) (p .2) (h .0, whole-fails (c .args .row .now) _ (h .0) (h .1), h .2)
+    hands-on _ (c .from-residual .result) (c .in-Break-paper .field-0 .0) (c .from-residual .ensures .1) (h .0, whole-fails (c .args .row .now) _ (h .0) (h .1), h .2)
 
 pub returns-in-rest : need.returns-in-rest
 returns-in-rest c = (c .in-Continue-paper .paper .rest .now, whole-behind (c .args .row .now) (c .in-Continue-paper .paper .value) (c .in-Continue-paper .paper .rest .now) (c .in-Continue-paper .ensures tt) (search needs), refl)

@@ -1,6 +1,7 @@
 use mathlib.Core.Path.{refl}
 use mathlib.Core.Logic.{inl, inr}
 use borrow.Author.Needs.{needs}
+use native.Mathlib.Omega.{arith}
 use Rattle.papers.proofs.Steps.{number-ends, number-wrong, number-right}
 use Rattle.papers.proofs.reading.number_from.Needs as need
 use Rattle.papers.proofs.reading.number_from.Needs.{then-value-low·by·then-value-low, then-value-low·by·else-value-low·then-value-ge-LIMIT}
@@ -13,11 +14,11 @@ returns-then-value-low c = (
   c .args .row .now,
   number-wrong (c .args .low) (c .args .row .now) (search needs)
       (elim (c .then-value-low .came) [
-        | then-value-low·by·then-value-low w ↦ inl (w .if-value-low .taken)
-        | then-value-low·by·else-value-low·then-value-ge-LIMIT w ↦ inr (w .if-value-ge-LIMIT .taken)
+        | then-value-low·by·then-value-low w ↦ inl (omega arith)
+        | then-value-low·by·else-value-low·then-value-ge-LIMIT w ↦ inr (omega arith)
       ]),
   refl,
 )
 
 pub returns : need.returns
-returns c = number-right (c .args .low) (c .args .row .now) (search needs) (c .if-value-low .left) (c .if-value-ge-LIMIT .left)
+returns c = number-right (c .args .low) (c .args .row .now) (search needs) (omega arith) (omega arith)
