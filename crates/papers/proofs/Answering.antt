@@ -32,13 +32,16 @@ comes-fault : {A : Type 0} (n : ℕ) (o : Outcome A) (a : A) (rest : List ℕ) (
 comes-fault n o a rest depth w left (inl h) e = let p = h .0 in let z : _≡_ {A = ℕ} 0 1 = cc in absurd (omega arith)
 comes-fault n o a rest depth w left (inr h) e = let p = h .1 in ((cc), h .2)
 
-pub front-told : (n : ℕ) (xs : List ℕ) (r : Result Part Fault) → Told (into deep (read-paper n xs)) r → Front-told n xs r
-front-told n xs (Ok part) h =
+front-answer : (n : ℕ) (xs : List ℕ) (r : Result Part Fault) → Told (into deep (read-paper n xs)) r → Front-told n xs r
+front-answer n xs (Ok part) h =
     let p = into-done deep (read-paper n xs) (part .value) (part .rest .now) h in
     (p .0, paper-read n xs (p .0) (part .rest .now) (p .1), sym (p .2))
-front-told n xs (Err f) h =
+front-answer n xs (Err f) h =
     let e = into-fault deep (read-paper n xs) (f .why) (h .0) (h .1) in
     record { left = h .0; comes = e; left-is = h .2; only-deeper = λ d rest g s r. comes-fault n _ d rest (deep d) (f .why) (h .0) (paper-comes d n rest g s) (ap (read-paper n) (sym r) ∙ e) }
+
+pub front-told : (n m : ℕ) (xs : List ℕ) (r : Result Part Fault) → Told (into deep (read-paper m xs)) r → m ≡ n → Front-told n xs r
+front-told n m xs r h l = subst (λ k. Front-told k xs r) l (front-answer m xs r h)
 
 -- nothing behind a paper, or something
 pub whole-fails : (xs : List ℕ) (w : Why) (left : List ℕ) → into deep (read-paper deepest xs) ≡ fault w left → into deep (read-row xs) ≡ fault w left

@@ -1,0 +1,43 @@
+-- One number at a time from the front of the bytes, and one word more of a command. Assumes nothing.
+use mathlib.Core.Path.{_≡_, refl, sym, ap, subst, _∙_}
+use mathlib.Core.List.{List, [], _∷_, _++_, append-assoc, append-nil}
+use Prim.Native.Nat.{ℕ, _-_, _≤_, _<_}
+use native.Mathlib.Omega.{arith}
+use lib.ListN.{length, getD, take, drop}
+use Rattle.std.proofs.shelf.Lists.{take-rest}
+use Rattle.std.specs.Of.String.{string-bytes}
+use Rattle.std.specs.Vec.{Every}
+use Rattle.std.specs.declared.alloc.Global.{Global}
+use Rattle.std.specs.declared.string.String.{String}
+use Rattle.std.proofs.Told.{every-snoc}
+use Rattle.programs.specs.Bytes.{four, numbers-in}
+use Rattle.programs.specs.Words.{Option-like, No-option}
+
+first-number : (xs : List ℕ) → 4 ≤ length xs → numbers-in xs ≡ four (getD xs 0 0) (getD xs 1 0) (getD xs 2 0) (getD xs 3 0) ∷ numbers-in (take (length xs - 4) (drop 4 xs))
+unfolding numbers-in
+first-number [] h = absurd (omega arith)
+first-number (a ∷ []) h = absurd (omega arith)
+first-number (a ∷ b ∷ []) h = absurd (omega arith)
+first-number (a ∷ b ∷ c ∷ []) h = absurd (omega arith)
+first-number (a ∷ b ∷ c ∷ d ∷ xs) h = ap (λ l. four a b c d ∷ numbers-in l) (sym (take-rest (a ∷ b ∷ c ∷ d ∷ xs) 4))
+
+no-number : (xs : List ℕ) → length xs < 4 → numbers-in xs ≡ []
+unfolding numbers-in
+no-number [] h = refl
+no-number (a ∷ []) h = refl
+no-number (a ∷ b ∷ []) h = refl
+no-number (a ∷ b ∷ c ∷ []) h = refl
+no-number (a ∷ b ∷ c ∷ d ∷ xs) h = absurd (omega arith)
+
+-- the numbers so far, one more, and those of the rest
+pub one-more : (all later whole xs : List ℕ) (n : ℕ) → all ++ numbers-in xs ≡ whole → 4 ≤ length xs → n ≡ four (getD xs 0 0) (getD xs 1 0) (getD xs 2 0) (getD xs 3 0) → later ≡ all ++ n ∷ [] → later ++ numbers-in (take (length xs - 4) (drop 4 xs)) ≡ whole
+one-more all later whole xs n h l e p =
+    let rest = numbers-in (take (length xs - 4) (drop 4 xs)) in
+    ap (λ v. v ++ rest) p ∙ append-assoc all (n ∷ []) rest ∙ ap (λ i. all ++ i ∷ rest) e ∙ ap (λ v. all ++ v) (sym (first-number xs l)) ∙ h
+
+pub no-more : (all whole xs : List ℕ) → all ++ numbers-in xs ≡ whole → length xs < 4 → all ≡ whole
+no-more all whole xs h l = sym (append-nil all) ∙ ap (λ v. all ++ v) (sym (no-number xs l)) ∙ h
+
+-- one word more that is no option, as its text says
+pub word-more : (all later : List (String Global)) (word : String Global) (text : List ℕ) → later ≡ all ++ word ∷ [] → Every No-option all → text ≡ string-bytes word → (Option-like text → ⊥) → Every No-option later
+word-more all later word text p h e q = subst (Every No-option) (sym p) (every-snoc No-option all word h (subst (λ l. Option-like l → ⊥) e q))

@@ -1,0 +1,27 @@
+// Numbers as a file or a stream has them: four bytes each, the low byte first.
+ghost use mathlib.Core.Path.{_≡_};
+ghost use Rattle.std.specs.Of.Vec.{vec-items};
+ghost use Rattle.std.specs.Vec.{made};
+ghost use Rattle.programs.specs.Bytes.{four, numbers-in};
+use std::alloc::AllocError;
+use std::alloc::Global;
+
+// The numbers of these bytes; up to three bytes at the end that make no number are left out.
+pub fn numbers(heap: Global, bytes: &[u8]) -> Result<Vec<u64>, AllocError>
+    ensures { λ r. ⌜ made r (λ v. vec-items v ≡ numbers-in (now (bytes .entry))) ⌝ }
+{
+    let mut all = Vec::new(heap);
+    let mut rest = bytes;
+    while let [a, b, c, d, more @ ..] = rest {
+        all.push(number(*a, *b, *c, *d))?;
+        rest = more;
+    }
+    Ok(all)
+}
+
+// One number, from its low byte to its high byte.
+fn number(a: u8, b: u8, c: u8, d: u8) -> u64
+    ensures { λ r. ⌜ r ≡ four a b c d ⌝ }
+{
+    u64::from(a) + 256 * u64::from(b) + 65536 * u64::from(c) + 16777216 * u64::from(d)
+}
