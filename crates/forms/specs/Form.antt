@@ -1,0 +1,79 @@
+-- Forms: what they are, and what is asked of them. Assumes nothing.
+use mathlib.Core.Path.{_≡_}
+use mathlib.Core.Bool.{Bool, true, false, _&&_}
+use mathlib.Core.List.{List, [], _∷_}
+use Prim.Native.Nat.{ℕ, _^_, _≤_, _<_}
+use lib.Dec.{ltb}
+use lib.ListN.{length, getD}
+use Rattle.forms.specs.declared.way.Place.{Place}
+use Rattle.forms.specs.declared.way.Way.{Way as Shape}
+use Rattle.forms.specs.declared.way.Way.the-variants.{Number, List as List-of, Record}
+
+-- One way in which a kind of paper may look.
+pub data Way : Type 0 where
+  -- a number: from, to
+  number : ℕ → ℕ → Way
+  -- a list of papers of a kind: at least so many, at most so many
+  list : ℕ → ℕ → ℕ → Way
+  -- a record: these places and no others
+  record-of : List Place → Way
+
+-- A form: for each kind of paper the ways in which it may look.
+abbrev pub Form : Type 0
+Form = List (List Way)
+
+-- The ways of a kind, one of them, and its places; a kind that is not there has none.
+abbrev pub ways-at : Form → ℕ → List Way
+ways-at f k = getD f k []
+
+abbrev pub way-at : Form → ℕ → ℕ → Way
+way-at f k w = getD (ways-at f k) w (number 0 0)
+
+abbrev pub places-of : Way → List Place
+places-of (number a b) = []
+places-of (list k a b) = []
+places-of (record-of ps) = ps
+
+abbrev pub place-at : Form → ℕ → ℕ → ℕ → Place
+place-at f k w i = getD (places-of (way-at f k w)) i (record { name = 0; kind = 0; must = false })
+
+-- A way as the code has it in hand: of a record only how many places it has.
+abbrev pub shape : Way → Shape
+shape (number a b) = Number a b
+shape (list k a b) = List-of k a b
+shape (record-of ps) = Record (length ps)
+
+abbrev pub shape-places : Shape → ℕ
+shape-places (Number a b) = 0
+shape-places (List-of k a b) = 0
+shape-places (Record n) = n
+
+-- Proper: the places of every record stand by strictly rising name.
+unfoldable pub rising : List Place → Bool
+rising [] = true
+rising (p ∷ []) = true
+rising (p ∷ q ∷ ps) = ltb (p .name) (q .name) && rising (q ∷ ps)
+
+unfoldable pub proper-ways : List Way → Bool
+proper-ways [] = true
+proper-ways (number a b ∷ ws) = proper-ways ws
+proper-ways (list k a b ∷ ws) = proper-ways ws
+proper-ways (record-of ps ∷ ws) = rising ps && proper-ways ws
+
+unfoldable pub proper : Form → Bool
+proper [] = true
+proper (ws ∷ wss) = proper-ways ws && proper wss
+
+-- Closed: every kind that a way names is there.
+unfoldable pub kinds-there-places : ℕ → List Place → Type 0
+kinds-there-places n [] = 0 ≤ n
+kinds-there-places n (p ∷ ps) = (p .kind < n) × kinds-there-places n ps
+
+unfoldable pub kinds-there-ways : ℕ → List Way → Type 0
+kinds-there-ways n [] = 0 ≤ n
+kinds-there-ways n (number a b ∷ ws) = kinds-there-ways n ws
+kinds-there-ways n (list k a b ∷ ws) = (k < n) × kinds-there-ways n ws
+kinds-there-ways n (record-of ps ∷ ws) = kinds-there-places n ps × kinds-there-ways n ws
+
+unfoldable pub Closed : Form → Type 0
+Closed f = (k : ℕ) → k < length f → kinds-there-ways (length f) (getD f k [])

@@ -1,0 +1,121 @@
+// Whether a row is a form, and where it is not.
+ghost use lib.ListN.{length};
+ghost use mathlib.Core.Path.{_≡_};
+ghost use Prim.Native.Nat.{_+_, _^_, _<_, _≤_};
+ghost use Rattle.forms.specs.Layout.{row-length, room-kinds, room-ways, kinds-count, every, first-failing, place-fits, within-limits, way-fits, way-fits-in, kind-fits, count-fits, form-fits, fault};
+use crate::layout;
+use crate::room::Room;
+use crate::way::Way;
+
+// Numbers and names are below this.
+const LIMIT: u64 = 1 << 32;
+// How long a list may at least and at most be.
+const LONGEST: usize = 16;
+// How many places a record may have.
+const PLACES: usize = 4;
+// The last of the tags.
+const RECORD: u64 = 2;
+
+pub fn is_form(row: &[u64], room: Room) -> bool
+    ensures { λ r. ⌜ r ≡ form-fits room (now (row .entry)) ⌝ }
+{
+    count_fits(row, room) && first_misfit(row, room) as u64 == layout::kinds_count(row)
+}
+
+// The place to tell of a row that is no form.
+pub fn fault_of(row: &[u64], room: Room) -> u64
+    ensures { λ r. ⌜ r ≡ fault room (now (row .entry)) ⌝ }
+{
+    if count_fits(row, room) {
+        first_misfit(row, room) as u64
+    } else {
+        room.kinds() as u64
+    }
+}
+
+// Whether the row is long enough, and has room for its kinds.
+fn count_fits(row: &[u64], room: Room) -> bool
+    ensures { λ r. ⌜ r ≡ count-fits room (now (row .entry)) ⌝ }
+{
+    layout::row_length(room) <= row.len()
+        && 1 <= layout::kinds_count(row)
+        && layout::kinds_count(row) <= room.kinds() as u64
+}
+
+// The first kind at fault, or the number of kinds.
+fn first_misfit(row: &[u64], room: Room) -> usize
+    requires { ⌜ row-length room ≤ length (now row) ⌝ ∗ ⌜ kinds-count (now row) ≤ room-kinds room ⌝ }
+    ensures { λ r. ⌜ r ≡ first-failing (kind-fits room (now (row .entry))) (kinds-count (now (row .entry))) ⌝ }
+{
+    let kinds = layout::kinds_count(row) as usize;
+    for kind in 0..kinds {
+        if !kind_fits(row, room, kind) {
+            return kind;
+        }
+    }
+    kinds
+}
+
+fn kind_fits(row: &[u64], room: Room, kind: usize) -> bool
+    requires { ⌜ row-length room ≤ length (now row) ⌝ ∗ ⌜ kind < room-kinds room ⌝ }
+    ensures { λ r. ⌜ r ≡ kind-fits room (now (row .entry)) kind ⌝ }
+{
+    let ways = layout::ways_count(row, room, kind) as usize;
+    ways <= room.ways() && ways_fit(row, room, kind, ways)
+}
+
+fn ways_fit(row: &[u64], room: Room, kind: usize, ways: usize) -> bool
+    requires { ⌜ row-length room ≤ length (now row) ⌝ ∗ ⌜ kind < room-kinds room ⌝ ∗ ⌜ ways ≤ room-ways room ⌝ }
+    ensures { λ r. ⌜ r ≡ every (way-fits-in room (now (row .entry)) kind) ways ⌝ }
+{
+    let kinds = layout::kinds_count(row) as usize;
+    for way in 0..ways {
+        if !way_fits(row, layout::way_start(room, kind, way), kinds) {
+            return false;
+        }
+    }
+    true
+}
+
+fn way_fits(row: &[u64], at: usize, kinds: usize) -> bool
+    requires { ⌜ at + 16 ≤ length (now row) ⌝ }
+    ensures { λ r. ⌜ r ≡ way-fits kinds (now (row .entry)) at ⌝ }
+{
+    let way = layout::way_at(row, at);
+    layout::tag_at(row, at) <= RECORD
+        && within_limits(way, kinds)
+        && places_fit(row, at, way.places(), kinds)
+}
+
+fn within_limits(way: Way, kinds: usize) -> bool
+    ensures { λ r. ⌜ r ≡ within-limits kinds way ⌝ }
+{
+    match way {
+        Way::Number { from, to } => from < LIMIT && to < LIMIT,
+        Way::List { kind, least, most } => kind < kinds && least <= LONGEST && most <= LONGEST,
+        Way::Record { places } => places <= PLACES,
+    }
+}
+
+fn places_fit(row: &[u64], at: usize, places: usize, kinds: usize) -> bool
+    requires { ⌜ at + 16 ≤ length (now row) ⌝ ∗ ⌜ places ≤ 4 ⌝ }
+    ensures { λ r. ⌜ r ≡ every (place-fits kinds (now (row .entry)) at) places ⌝ }
+{
+    for index in 0..places {
+        if !place_fits(row, at, index, kinds) {
+            return false;
+        }
+    }
+    true
+}
+
+fn place_fits(row: &[u64], at: usize, index: usize, kinds: usize) -> bool
+    requires { ⌜ at + 16 ≤ length (now row) ⌝ ∗ ⌜ index < 4 ⌝ }
+    ensures { λ r. ⌜ r ≡ place-fits kinds (now (row .entry)) at index ⌝ }
+{
+    let place = layout::place_at(row, at, index);
+    layout::mark_at(row, at, index) <= 1
+        && place.kind < kinds
+        && place.name < LIMIT
+        && (index == 0 || layout::place_at(row, at, index - 1).name < place.name)
+}
