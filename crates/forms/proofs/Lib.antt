@@ -1,0 +1,4 @@
+pub mod Every
+pub mod Offsets
+pub mod Parts
+pub mod Fitting

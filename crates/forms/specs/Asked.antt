@@ -4,19 +4,20 @@ use mathlib.Core.Bool.{cond}
 use mathlib.Core.List.{List}
 use Prim.Native.Nat.{ℕ}
 use lib.Dec.{ltb}
+use lib.ListN.{length}
 use Rattle.std.specs.declared.result.Result.{Result}
 use Rattle.std.specs.declared.result.Result.the-variants.{Ok, Err}
 use Rattle.papers.specs.declared.refusal.Refusal.{Refusal}
 use Rattle.papers.specs.declared.refusal.Refusal.the-variants.{FirstForm, SecondForm, NoKind}
 use Rattle.forms.specs.declared.room.Room.{Room}
 use Rattle.forms.specs.declared.room.Room.the-variants.{Plain}
-use Rattle.forms.specs.Layout.{form-fits, fault, kinds-count}
+use Rattle.forms.specs.Layout.{form-fits, form-in, fault}
 
 -- One form in a row, and a kind of it.
 abbrev pub one-asked : Room → List ℕ → ℕ → Result ℕ Refusal
 one-asked room row k =
     cond (form-fits room row)
-    (cond (ltb k (kinds-count row)) (Ok k) (Err (NoKind k)))
+    (cond (ltb k (length (form-in room row))) (Ok k) (Err (NoKind k)))
     (Err (FirstForm (fault room row)))
 
 -- Two plain forms, and a kind of each.
@@ -24,6 +25,6 @@ abbrev pub two-asked : List ℕ → List ℕ → ℕ → ℕ → Result (ℕ × 
 two-asked one two k j =
     cond (form-fits Plain one)
     (cond (form-fits Plain two)
-    (cond (ltb k (kinds-count one)) (cond (ltb j (kinds-count two)) (Ok (k, j)) (Err (NoKind j))) (Err (NoKind k)))
+    (cond (ltb k (length (form-in Plain one))) (cond (ltb j (length (form-in Plain two))) (Ok (k, j)) (Err (NoKind j))) (Err (NoKind k)))
     (Err (SecondForm (fault Plain two))))
     (Err (FirstForm (fault Plain one)))

@@ -34,8 +34,11 @@ places-of (number a b) = []
 places-of (list k a b) = []
 places-of (record-of ps) = ps
 
+abbrev pub no-place : Place
+no-place = record { name = 0; kind = 0; must = false }
+
 abbrev pub place-at : Form → ℕ → ℕ → ℕ → Place
-place-at f k w i = getD (places-of (way-at f k w)) i (record { name = 0; kind = 0; must = false })
+place-at f k w i = getD (places-of (way-at f k w)) i no-place
 
 -- A way as the code has it in hand: of a record only how many places it has.
 abbrev pub shape : Way → Shape

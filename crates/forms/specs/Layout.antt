@@ -3,9 +3,9 @@
 -- The first number says how many kinds there are. Then each kind has a block, as long as the room asks: how many ways, and
 -- room for the ways, 16 numbers each. A way is `0 from to`, `1 kind least most`, or `2 count` with its places, three numbers
 -- each, from its fifth number on: name, kind, and 1 if the place must be filled, else 0. What is not used is not looked at.
-use mathlib.Core.Bool.{Bool, true, false, cond, _&&_}
+use mathlib.Core.Bool.{Bool, true, false, cond, _&&_, _||_}
 use mathlib.Core.List.{List, map}
-use Prim.Native.Nat.{ℕ, zero, suc, _+_, _*_, _^_}
+use Prim.Native.Nat.{ℕ, zero, suc, _+_, _-_, _*_, _^_}
 use lib.Dec.{eqb, leb, ltb}
 use lib.ListN.{length, getD}
 use Rattle.std.specs.Iters.{counting}
@@ -59,12 +59,15 @@ listed f n = map f (counting 0 n)
 abbrev pub name-in : List ℕ → ℕ → ℕ → ℕ
 name-in row at i = getD row (place-start at i) 0
 
+abbrev pub kind-in : List ℕ → ℕ → ℕ → ℕ
+kind-in row at i = getD row (place-start at i + 1) 0
+
 abbrev pub mark-in : List ℕ → ℕ → ℕ → ℕ
 mark-in row at i = getD row (place-start at i + 2) 0
 
 unfoldable pub place-in : List ℕ → ℕ → ℕ → Place
 place-in row at i =
-    record { name = name-in row at i; kind = getD row (place-start at i + 1) 0; must = eqb (mark-in row at i) 1 }
+    record { name = name-in row at i; kind = kind-in row at i; must = eqb (mark-in row at i) 1 }
 
 unfoldable pub way-by : ℕ → List ℕ → ℕ → Way
 way-by zero row at = number (getD row (at + 1) 0) (getD row (at + 2) 0)
@@ -92,14 +95,14 @@ unfoldable pub first-failing : (ℕ → Bool) → ℕ → ℕ
 first-failing p zero = 0
 first-failing p (suc n) = cond (every p n) (cond (p n) (suc n) n) (first-failing p n)
 
--- A place is none if its kind is not one of the n kinds, or its name is not above the name of the place before it.
+-- A place's name is above the name of the place before it, if there is one.
 abbrev pub name-above : List ℕ → ℕ → ℕ → Bool
-name-above row at zero = true
-name-above row at (suc i) = ltb (name-in row at i) (name-in row at (suc i))
+name-above row at i = eqb i 0 || ltb (name-in row at (i - 1)) (name-in row at i)
 
+-- A place of a form of n kinds.
 unfoldable pub place-fits : ℕ → List ℕ → ℕ → ℕ → Bool
 place-fits n row at i =
-    leb (mark-in row at i) 1 && (ltb (place-in row at i .kind) n && (ltb (name-in row at i) (2 ^ 32) && name-above row at i))
+    leb (mark-in row at i) 1 && (ltb (kind-in row at i) n && (ltb (name-in row at i) (2 ^ 32) && name-above row at i))
 
 -- The limits of a way in a form of n kinds, its places aside.
 abbrev pub within-limits : ℕ → Shape → Bool
@@ -119,7 +122,7 @@ unfoldable pub kind-fits : Room → List ℕ → ℕ → Bool
 kind-fits room row k = leb (ways-count room row k) (room-ways room) && every (way-fits-in room row k) (ways-count room row k)
 
 -- The row is long enough, and there is at least one kind and room for all.
-unfoldable pub count-fits : Room → List ℕ → Bool
+abbrev pub count-fits : Room → List ℕ → Bool
 count-fits room row = leb (row-length room) (length row) && (leb 1 (kinds-count row) && leb (kinds-count row) (room-kinds room))
 
 -- A row is a form.

@@ -2,7 +2,7 @@
 ghost use lib.ListN.{length};
 ghost use mathlib.Core.Path.{_≡_};
 ghost use Prim.Native.Nat.{_+_, _^_, _<_, _≤_};
-ghost use Rattle.forms.specs.Layout.{row-length, room-kinds, room-ways, kinds-count, every, first-failing, place-fits, within-limits, way-fits, way-fits-in, kind-fits, count-fits, form-fits, fault};
+ghost use Rattle.forms.specs.Layout.{row-length, room-kinds, room-ways, kinds-count, every, first-failing, place-fits, name-above, within-limits, way-fits, way-fits-in, kind-fits, count-fits, form-fits, fault};
 use crate::layout;
 use crate::room::Room;
 use crate::way::Way;
@@ -37,9 +37,11 @@ pub fn fault_of(row: &[u64], room: Room) -> u64
 fn count_fits(row: &[u64], room: Room) -> bool
     ensures { λ r. ⌜ r ≡ count-fits room (now (row .entry)) ⌝ }
 {
-    layout::row_length(room) <= row.len()
-        && 1 <= layout::kinds_count(row)
-        && layout::kinds_count(row) <= room.kinds() as u64
+    if row.len() < layout::row_length(room) {
+        return false;
+    }
+    let kinds = layout::kinds_count(row);
+    1 <= kinds && kinds <= room.kinds() as u64
 }
 
 // The first kind at fault, or the number of kinds.
@@ -114,8 +116,16 @@ fn place_fits(row: &[u64], at: usize, index: usize, kinds: usize) -> bool
     ensures { λ r. ⌜ r ≡ place-fits kinds (now (row .entry)) at index ⌝ }
 {
     let place = layout::place_at(row, at, index);
-    layout::mark_at(row, at, index) <= 1
-        && place.kind < kinds
-        && place.name < LIMIT
-        && (index == 0 || layout::place_at(row, at, index - 1).name < place.name)
+    if layout::mark_at(row, at, index) > 1 || place.kind >= kinds {
+        return false;
+    }
+    place.name < LIMIT && name_above(row, at, index)
+}
+
+// Whether a place's name is above that of the place before it.
+fn name_above(row: &[u64], at: usize, index: usize) -> bool
+    requires { ⌜ at + 16 ≤ length (now row) ⌝ ∗ ⌜ index < 4 ⌝ }
+    ensures { λ r. ⌜ r ≡ name-above (now (row .entry)) at index ⌝ }
+{
+    index == 0 || layout::place_at(row, at, index - 1).name < layout::place_at(row, at, index).name
 }

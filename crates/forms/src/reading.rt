@@ -7,7 +7,7 @@ ghost use mathlib.Core.Bool.{false};
 ghost use mathlib.Core.Path.{_≡_};
 ghost use Prim.Native.Nat.{_+_, _^_, _<_, _≤_};
 ghost use Rattle.std.specs.Options.{Cases as BySome};
-ghost use Rattle.forms.specs.Form.{shape, ways-at, way-at, places-of, place-at};
+ghost use Rattle.forms.specs.Form.{shape, shape-places, ways-at, way-at, places-of, place-at};
 ghost use Rattle.forms.specs.Layout.{form-fits, form-in, room-kinds, room-ways};
 ghost use Rattle.forms.specs.View.{form-of, Keeps-to};
 use crate::checking;
@@ -47,8 +47,10 @@ impl<'a> FormView<'a> {
     }
 
     pub fn way(&self, kind: usize, way: usize) -> Way
-        requires { ⌜ kind < length (form-of (now self)) ⌝ ∗ ⌜ way < length (ways-at (form-of (now self)) kind) ⌝ }
+        requires kind_there { ⌜ kind < length (form-of (now self)) ⌝ }
+        requires way_there { ⌜ way < length (ways-at (form-of (now self)) kind) ⌝ }
         ensures is { λ r. ⌜ r ≡ shape (way-at (form-of (now (self .entry))) kind way) ⌝ }
+        ensures places { λ r. ⌜ shape-places r ≡ length (places-of (way-at (form-of (now (self .entry))) kind way)) ⌝ }
         ensures limits { λ r. ⌜ Keeps-to (length (form-of (now (self .entry)))) r ⌝ }
     {
         layout::way_at(self.row, layout::way_start(self.room, kind, way))
@@ -56,7 +58,9 @@ impl<'a> FormView<'a> {
 
     // A place of a way that is a record.
     pub fn place(&self, kind: usize, way: usize, index: usize) -> Place
-        requires { ⌜ kind < length (form-of (now self)) ⌝ ∗ ⌜ way < length (ways-at (form-of (now self)) kind) ⌝ ∗ ⌜ index < length (places-of (way-at (form-of (now self)) kind way)) ⌝ }
+        requires kind_there { ⌜ kind < length (form-of (now self)) ⌝ }
+        requires way_there { ⌜ way < length (ways-at (form-of (now self)) kind) ⌝ }
+        requires place_there { ⌜ index < length (places-of (way-at (form-of (now self)) kind way)) ⌝ }
         ensures is { λ r. ⌜ r ≡ place-at (form-of (now (self .entry))) kind way index ⌝ }
         ensures limits { λ r. ⌜ (r .name < 2 ^ 32) × (r .kind < length (form-of (now (self .entry)))) ⌝ }
     {
