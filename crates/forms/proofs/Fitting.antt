@@ -2,19 +2,19 @@
 use mathlib.Core.Path.{_≡_, refl, sym, ap, subst, _∙_}
 use mathlib.Core.Bool.{Bool, true, false, _&&_}
 use mathlib.Core.List.{List}
+use mathlib.Core.Logic.{inl, inr}
 use Prim.Native.Nat.{ℕ, _+_, _^_, _<_, _≤_}
 use native.Mathlib.Omega.{arith}
 use lib.Dec.{leb, ltb}
 use lib.ListN.{length, getD}
-use Rattle.std.proofs.shelf.Tests.{and-parts, leb-true, ltb-true}
+use Rattle.std.proofs.shelf.Tests.{cases-bool, both-ways, and-cases, cond-true, cond-false, and-parts, leb-true, ltb-true}
 use Rattle.std.proofs.shelf.Ways.{tells}
 use Rattle.forms.specs.declared.room.Room.{Room}
 use Rattle.forms.specs.declared.way.Way.{Way as Shape}
 use Rattle.forms.specs.declared.way.Way.the-variants.{Number, List as List-of, Record}
 use Rattle.forms.specs.Form.{Way, number, list, record-of, shape, no-place, ways-at, way-at, places-of, place-at}
-use Rattle.forms.specs.View.{Keeps-to}
-use Rattle.forms.specs.Layout.{room-kinds, room-ways, row-length, kinds-count, ways-count, count-fits, form-fits, kind-fits, way-fits-in, way-fits, way-from, way-start, within-limits, every, form-in, way-in, place-in, place-fits, name-in, kind-in, mark-in, name-above}
-use Rattle.forms.proofs.Every.{every-at}
+use Rattle.forms.specs.Layout.{Keeps-to, fault, First-fault, first-failing, room-kinds, room-ways, row-length, kinds-count, ways-count, count-fits, form-fits, kind-fits, way-fits-in, way-fits, way-from, way-start, within-limits, every, form-in, way-in, place-in, place-fits, name-in, kind-in, mark-in, name-above}
+use Rattle.forms.proofs.Every.{every-at, first-failing-fails}
 use Rattle.forms.proofs.Parts.{kinds-of-form, ways-count-of-form, way-of-form, place-of-way}
 use Rattle.forms.proofs.Offsets.{way-within}
 
@@ -159,3 +159,23 @@ place-there room row k w i h l m j =
       is = ap (λ x. getD (places-of x) i no-place) (c .is) ∙ place-of-way (getD row at 0) row at i no-place i-there;
       fits = placed n row at i (place-fitting n row at i (c .fits) i-there);
     }
+
+and-false : (x y : Bool) → x ≡ true → (x && y) ≡ false → y ≡ false
+and-false x y e h =
+    elim (and-cases x y h) [ inl f ↦ absurd (both-ways x f e) | inr f ↦ f ]
+
+-- The place told of a row that is no form is the first at fault.
+pub fault-first : (room : Room) (row : List ℕ) → form-fits room row ≡ false → First-fault room row (fault room row)
+unfolding form-fits fault
+fault-first room row h =
+    let n = kinds-count row in
+    let p = kind-fits room row in
+    elim (cases-bool (count-fits room row)) [
+      | inl e ↦
+          let f = first-failing-fails p n (and-false (count-fits room row) (every p n) e h) in
+          subst (First-fault room row) (sym (cond-true (count-fits room row) (first-failing p n) (room-kinds room) e))
+          (inr (e, f .0, f .1, λ i l. every-at p (first-failing p n) i (f .2) l))
+      | inr e ↦
+          subst (First-fault room row) (sym (cond-false (count-fits room row) (first-failing p n) (room-kinds room) e))
+          (inl (e, refl))
+    ]

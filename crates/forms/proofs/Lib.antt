@@ -2,3 +2,4 @@ pub mod Every
 pub mod Offsets
 pub mod Parts
 pub mod Fitting
+pub mod Proper

@@ -80,3 +80,15 @@ kinds-there-ways n (record-of ps ∷ ws) = kinds-there-places n ps × kinds-ther
 
 unfoldable pub Closed : Form → Type 0
 Closed f = (k : ℕ) → k < length f → kinds-there-ways (length f) (getD f k [])
+
+-- Bounded: at most so many kinds, of at most so many ways; ways with numbers below 2^32, lengths up to 16, and up to 4 places.
+abbrev pub Bounded-way : Way → Type 0
+Bounded-way (number a b) = (a < 2 ^ 32) × (b < 2 ^ 32)
+Bounded-way (list k a b) = (a ≤ 16) × (b ≤ 16)
+Bounded-way (record-of ps) = (length ps ≤ 4) × ((i : ℕ) → i < length ps → getD ps i no-place .name < 2 ^ 32)
+
+pub record Bounded (kinds ways : ℕ) (f : Form) : Type 0 where
+  pub some : 1 ≤ length f
+  pub few : length f ≤ kinds
+  pub few-ways : (k : ℕ) → k < length f → length (ways-at f k) ≤ ways
+  pub each-way : (k w : ℕ) → k < length f → w < length (ways-at f k) → Bounded-way (way-at f k w)

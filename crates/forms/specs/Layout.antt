@@ -3,9 +3,11 @@
 -- The first number says how many kinds there are. Then each kind has a block, as long as the room asks: how many ways, and
 -- room for the ways, 16 numbers each. A way is `0 from to`, `1 kind least most`, or `2 count` with its places, three numbers
 -- each, from its fifth number on: name, kind, and 1 if the place must be filled, else 0. What is not used is not looked at.
+use mathlib.Core.Path.{_≡_}
 use mathlib.Core.Bool.{Bool, true, false, cond, _&&_, _||_}
 use mathlib.Core.List.{List, map}
-use Prim.Native.Nat.{ℕ, zero, suc, _+_, _-_, _*_, _^_}
+use mathlib.Core.Logic.{_⊎_}
+use Prim.Native.Nat.{ℕ, zero, suc, _+_, _-_, _*_, _^_, _≤_, _<_}
 use lib.Dec.{eqb, leb, ltb}
 use lib.ListN.{length, getD}
 use Rattle.std.specs.Iters.{counting}
@@ -110,6 +112,12 @@ within-limits n (Number from to) = ltb from (2 ^ 32) && ltb to (2 ^ 32)
 within-limits n (List-of kind least most) = ltb kind n && (leb least 16 && leb most 16)
 within-limits n (Record places) = leb places 4
 
+-- The same limits, as orders.
+abbrev pub Keeps-to : ℕ → Shape → Type 0
+Keeps-to n (Number from to) = (from < 2 ^ 32) × (to < 2 ^ 32)
+Keeps-to n (List-of kind least most) = (kind < n) × (least ≤ 16) × (most ≤ 16)
+Keeps-to n (Record places) = places ≤ 4
+
 unfoldable pub way-fits : ℕ → List ℕ → ℕ → Bool
 way-fits n row at =
     leb (getD row at 0) 2
@@ -133,3 +141,10 @@ form-fits room row = count-fits room row && every (kind-fits room row) (kinds-co
 -- kinds is out of bounds, the number of kinds that it should have room for.
 unfoldable pub fault : Room → List ℕ → ℕ
 fault room row = cond (count-fits room row) (first-failing (kind-fits room row) (kinds-count row)) (room-kinds room)
+
+-- What that place says: the row cannot be counted on at all, or the kind is none and all before it are.
+abbrev pub First-fault : Room → List ℕ → ℕ → Type 0
+First-fault room row k =
+    ((count-fits room row ≡ false) × (k ≡ room-kinds room))
+    ⊎ ((count-fits room row ≡ true) × (k < kinds-count row) × (kind-fits room row k ≡ false)
+    × ((i : ℕ) → i < k → kind-fits room row i ≡ true))

@@ -1,8 +1,9 @@
 // Whether a row is a form, and where it is not.
 ghost use lib.ListN.{length};
+ghost use mathlib.Core.Bool.{false};
 ghost use mathlib.Core.Path.{_≡_};
 ghost use Prim.Native.Nat.{_+_, _^_, _<_, _≤_};
-ghost use Rattle.forms.specs.Layout.{row-length, room-kinds, room-ways, kinds-count, every, first-failing, place-fits, name-above, within-limits, way-fits, way-fits-in, kind-fits, count-fits, form-fits, fault};
+ghost use Rattle.forms.specs.Layout.{row-length, room-kinds, room-ways, kinds-count, every, first-failing, place-fits, name-above, within-limits, way-fits, way-fits-in, kind-fits, count-fits, form-fits, fault, First-fault};
 use crate::layout;
 use crate::room::Room;
 use crate::way::Way;
@@ -24,7 +25,8 @@ pub fn is_form(row: &[u64], room: Room) -> bool
 
 // The place to tell of a row that is no form.
 pub fn fault_of(row: &[u64], room: Room) -> u64
-    ensures { λ r. ⌜ r ≡ fault room (now (row .entry)) ⌝ }
+    ensures is { λ r. ⌜ r ≡ fault room (now (row .entry)) ⌝ }
+    ensures first { λ r. ⌜ (form-fits room (now (row .entry)) ≡ false → First-fault room (now (row .entry)) r) ⌝ }
 {
     if count_fits(row, room) {
         first_misfit(row, room) as u64

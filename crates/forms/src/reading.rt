@@ -3,16 +3,13 @@
 // As with a slice's index, the caller sees to it that the part asked for is there.
 ghost use denote.Ref.{now};
 ghost use lib.ListN.{length};
-ghost use mathlib.Core.Bool.{false};
 ghost use mathlib.Core.Path.{_≡_};
 ghost use Prim.Native.Nat.{_+_, _^_, _<_, _≤_};
 ghost use Rattle.std.specs.Options.{Cases as BySome};
 ghost use Rattle.forms.specs.Form.{shape, shape-places, ways-at, way-at, places-of, place-at};
-ghost use Rattle.forms.specs.Layout.{form-fits, form-in, room-kinds, room-ways};
-ghost use Rattle.forms.specs.View.{form-of, Keeps-to};
-use crate::checking;
+ghost use Rattle.forms.specs.Layout.{Keeps-to, room-kinds, room-ways};
+ghost use Rattle.forms.specs.View.{form-of};
 use crate::layout;
-use crate::room::Room;
 use crate::view::FormView;
 use crate::way::Place;
 use crate::way::Way;

@@ -2,7 +2,8 @@
 ghost use denote.Ref.{now};
 ghost use mathlib.Core.Bool.{true};
 ghost use mathlib.Core.Path.{_≡_};
-ghost use Rattle.forms.specs.Layout.{form-fits};
+ghost use Rattle.forms.specs.Form.{proper, Closed, Bounded};
+ghost use Rattle.forms.specs.Layout.{form-fits, form-in, room-kinds, room-ways};
 use crate::room::Room;
 
 #[derive(Clone, Copy)]
@@ -13,10 +14,14 @@ pub struct FormView<'a> {
 }
 
 impl<'a> FormView<'a> {
-    // The view of a row that is a form, as `is_form`, `one_form` and `two_forms` find out.
+    // The view of a row that is a form, as `is_form`, `one_form` or `two_forms` has found.
     pub fn new(row: &'a [u64], room: Room) -> FormView<'a>
         requires { ⌜ form-fits room (now row) ≡ true ⌝ }
-        ensures { λ r. ⌜ r .row ≡ row .entry ⌝ ∗ ⌜ r .room ≡ room ⌝ }
+        ensures row { λ r. ⌜ r .row ≡ row .entry ⌝ }
+        ensures room { λ r. ⌜ r .room ≡ room ⌝ }
+        ensures proper { λ _. ⌜ proper (form-in room (now (row .entry))) ≡ true ⌝ }
+        ensures closed { λ _. ⌜ Closed (form-in room (now (row .entry))) ⌝ }
+        ensures bounded { λ _. ⌜ Bounded (room-kinds room) (room-ways room) (form-in room (now (row .entry))) ⌝ }
     {
         FormView { row, room }
     }

@@ -3,7 +3,8 @@ use lib.ListN.{length}
 use denote.Ref.{now}
 use native.Mathlib.Omega.{arith}
 use Rattle.forms.specs.Form.{shape, shape-places, way-at}
-use Rattle.forms.specs.View.{form-of, Keeps-to}
+use Rattle.forms.specs.Layout.{Keeps-to}
+use Rattle.forms.specs.View.{form-of}
 use Rattle.forms.proofs.Parts.{places-of-shape}
 use Rattle.forms.proofs.Fitting.{kind-there, way-there}
 use Rattle.forms.proofs.view.FormView.way.Needs as need
