@@ -9,14 +9,19 @@ mod checking;
 mod layout;
 mod reading;
 mod room;
+#[cfg(test)]
+mod tests;
 mod view;
 mod way;
 
 pub use asked::one_form;
 pub use asked::two_forms;
-pub use checking::fault_of;
 pub use checking::is_form;
 pub use room::Room;
 pub use view::FormView;
 pub use way::Place;
+pub use way::PlaceDebug;
+pub use way::PlacePartialEq;
 pub use way::Way;
+pub use way::WayDebug;
+pub use way::WayPartialEq;
