@@ -7,7 +7,7 @@ use native.Mathlib.Numerals.{add-one}
 use native.Mathlib.Omega.{arith}
 use lib.Dec.{eqb}
 use Rattle.std.proofs.shelf.Tests.{and-parts, and-from, and-left, and-right, cases-order, cond-true, cond-false, cases-bool, eq-eqb, ne-eqb, both-ways}
-use Rattle.forms.specs.Layout.{every, first-failing}
+use Rattle.forms.specs.Fits.{every, first-failing}
 
 pub every-none : (p : ℕ → Bool) → every p 0 ≡ true
 unfolding every
@@ -28,6 +28,11 @@ every-at p (suc n) k h l =
       | inl e ↦ subst (λ (x : ℕ). p x ≡ true) (sym e) (parts .1)
       | inr o ↦ elim o [ inl b ↦ every-at p n k (parts .0) b | inr b ↦ absurd (omega arith) ]
     ]
+
+pub every-from : (p : ℕ → Bool) (n : ℕ) → ((k : ℕ) → k < n → p k ≡ true) → every p n ≡ true
+every-from p zero h = every-none p
+every-from p (suc n) h =
+    every-suc p n ∙ and-from (every p n) (p n) (every-from p n (λ k l. h k (omega arith))) (h n (omega arith))
 
 pub every-off : (p : ℕ → Bool) (n k : ℕ) → k < n → p k ≡ false → every p n ≡ false
 every-off p n k l off = go (every p n) refl

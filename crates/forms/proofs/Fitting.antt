@@ -13,10 +13,10 @@ use Rattle.forms.specs.declared.room.Room.{Room}
 use Rattle.forms.specs.declared.way.Way.{Way as Shape}
 use Rattle.forms.specs.declared.way.Way.the-variants.{Number, List as List-of, Record}
 use Rattle.forms.specs.Form.{Way, number, list, record-of, shape, no-place, ways-at, way-at, places-of, place-at}
-use Rattle.forms.specs.Layout.{Keeps-to, fault, First-fault, first-failing, room-kinds, room-ways, row-length, kinds-count, ways-count, count-fits, form-fits, kind-fits, way-fits-in, way-fits, way-from, way-start, within-limits, every, form-in, way-in, place-in, place-fits, name-in, kind-in, mark-in, name-above}
+use Rattle.forms.specs.Fits.{Keeps-to, fault, First-fault, first-failing, count-fits, form-fits, kind-fits, way-fits-in, way-fits, within-limits, every, place-fits, name-above}
+use Rattle.forms.specs.Layout.{room-kinds, room-ways, row-length, kinds-count, ways-count, way-from, way-start, form-in, way-in, place-in, name-in, kind-in, mark-in}
 use Rattle.forms.proofs.Every.{every-at, first-failing-fails}
 use Rattle.forms.proofs.Parts.{kinds-of-form, ways-count-of-form, way-of-form, place-of-way}
-use Rattle.forms.proofs.Offsets.{way-within}
 
 -- The row is long enough, and there are some kinds and not too many.
 pub record Counted (room : Room) (row : List ℕ) : Type 0 where
@@ -118,7 +118,6 @@ kind-there room row k h l =
 -- A way of a form, found in the row.
 pub record Way-there (room : Room) (row : List ℕ) (k w : ℕ) : Type 0 where
   pub room-for : w < room-ways room
-  pub within : way-start room k w + 16 ≤ length row
   pub is : way-at (form-in room row) k w ≡ way-from row (way-start room k w)
   pub fits : way-fits (length (form-in room row)) row (way-start room k w) ≡ true
   pub keeps : Keeps-to (length (form-in room row)) (shape (way-at (form-in room row) k w))
@@ -135,7 +134,6 @@ way-there room row k w h l m =
     rw kinds-of-form (way-fitting room row k w (kind-fitting room row k h (c .there)) there) in
     record {
       room-for = room-for;
-      within = omega (arith, way-within room k w (c .room-for) room-for);
       is = is;
       fits = fits;
       keeps = rw is (keeps-to (length (form-in room row)) (shape (way-from row (way-start room k w))) (way-limits (length (form-in room row)) row (way-start room k w) fits));
@@ -160,6 +158,7 @@ place-there room row k w i h l m j =
       fits = placed n row at i (place-fitting n row at i (c .fits) i-there);
     }
 
+-- A part that fails where another passes.
 and-false : (x y : Bool) → x ≡ true → (x && y) ≡ false → y ≡ false
 and-false x y e h =
     elim (and-cases x y h) [ inl f ↦ absurd (both-ways x f e) | inr f ↦ f ]

@@ -3,3 +3,4 @@ pub mod Offsets
 pub mod Parts
 pub mod Fitting
 pub mod Proper
+pub mod Views

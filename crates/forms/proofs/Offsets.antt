@@ -23,8 +23,3 @@ pub row-short : (room : Room) → (1 < row-length room) × (row-length room ≤ 
 row-short Plain = omega arith
 row-short Both = omega arith
 row-short Either = omega arith
-
-pub room-small : (room : Room) → (room-kinds room ≤ 16) × (room-ways room ≤ 9)
-room-small Plain = omega arith
-room-small Both = omega arith
-room-small Either = omega arith

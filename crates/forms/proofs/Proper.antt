@@ -12,7 +12,8 @@ use Rattle.std.proofs.shelf.Ways.{tells}
 use Rattle.forms.specs.declared.room.Room.{Room}
 use Rattle.forms.specs.declared.way.Place.{Place}
 use Rattle.forms.specs.Form.{Form, Way, number, list, record-of, shape, no-place, ways-at, way-at, places-of, place-at, rising, proper-ways, proper, kinds-there-places, kinds-there-ways, Closed, Bounded, Bounded-way}
-use Rattle.forms.specs.Layout.{Keeps-to, room-kinds, room-ways, form-fits, form-in, place-in, name-in, name-above, way-start}
+use Rattle.forms.specs.Fits.{Keeps-to, form-fits, name-above}
+use Rattle.forms.specs.Layout.{room-kinds, room-ways, form-in, place-in, name-in, way-start}
 use Rattle.forms.proofs.Fitting.{counted, kind-there, way-there, place-there}
 use Rattle.forms.proofs.Parts.{kinds-of-form}
 

@@ -3,7 +3,8 @@ ghost use lib.ListN.{length};
 ghost use mathlib.Core.Bool.{false};
 ghost use mathlib.Core.Path.{_≡_};
 ghost use Prim.Native.Nat.{_+_, _^_, _<_, _≤_};
-ghost use Rattle.forms.specs.Layout.{row-length, room-kinds, room-ways, kinds-count, every, first-failing, place-fits, name-above, within-limits, way-fits, way-fits-in, kind-fits, count-fits, form-fits, fault, First-fault};
+ghost use Rattle.forms.specs.Fits.{every, first-failing, place-fits, name-above, within-limits, way-fits, way-fits-in, kind-fits, count-fits, form-fits, fault, First-fault};
+ghost use Rattle.forms.specs.Layout.{row-length, room-kinds, room-ways, kinds-count};
 use crate::layout;
 use crate::room::Room;
 use crate::way::Way;
@@ -17,6 +18,7 @@ const PLACES: usize = 4;
 // The last of the tags.
 const RECORD: u64 = 2;
 
+// Whether the row is a form.
 pub fn is_form(row: &[u64], room: Room) -> bool
     ensures { λ r. ⌜ r ≡ form-fits room (now (row .entry)) ⌝ }
 {
@@ -60,6 +62,7 @@ fn first_misfit(row: &[u64], room: Room) -> usize
     kinds
 }
 
+// Whether there is room for a kind's ways, and each is one.
 fn kind_fits(row: &[u64], room: Room, kind: usize) -> bool
     requires { ⌜ row-length room ≤ length (now row) ⌝ ∗ ⌜ kind < room-kinds room ⌝ }
     ensures { λ r. ⌜ r ≡ kind-fits room (now (row .entry)) kind ⌝ }
@@ -81,6 +84,7 @@ fn ways_fit(row: &[u64], room: Room, kind: usize, ways: usize) -> bool
     true
 }
 
+// Whether the way that begins at `at` is one.
 fn way_fits(row: &[u64], at: usize, kinds: usize) -> bool
     requires { ⌜ at + 16 ≤ length (now row) ⌝ }
     ensures { λ r. ⌜ r ≡ way-fits kinds (now (row .entry)) at ⌝ }
@@ -91,6 +95,7 @@ fn way_fits(row: &[u64], at: usize, kinds: usize) -> bool
         && places_fit(row, at, way.places(), kinds)
 }
 
+// Whether a way keeps to the limits, its places aside.
 fn within_limits(way: Way, kinds: usize) -> bool
     ensures { λ r. ⌜ r ≡ within-limits kinds way ⌝ }
 {
@@ -113,6 +118,7 @@ fn places_fit(row: &[u64], at: usize, places: usize, kinds: usize) -> bool
     true
 }
 
+// Whether a place of the record that begins at `at` is one.
 fn place_fits(row: &[u64], at: usize, index: usize, kinds: usize) -> bool
     requires { ⌜ at + 16 ≤ length (now row) ⌝ ∗ ⌜ index < 4 ⌝ }
     ensures { λ r. ⌜ r ≡ place-fits kinds (now (row .entry)) at index ⌝ }

@@ -8,12 +8,14 @@ use crate::room::Room;
 use crate::way::Place;
 use crate::way::Way;
 
-// The numbers of a way, and of a place.
+// How many numbers a way has.
 const WAY: usize = 16;
 
-const PLACE: usize = 3;
-// The places of a record begin here.
+// Where in a record its places begin.
 const PLACES: usize = 4;
+
+// How many numbers a place has.
+const PLACE: usize = 3;
 
 // How many numbers a form's row has at least.
 pub fn row_length(room: Room) -> usize
@@ -29,6 +31,7 @@ fn block(room: Room) -> usize
     1 + WAY * room.ways()
 }
 
+// Where a kind begins: with the count of its ways.
 fn kind_start(room: Room, kind: usize) -> usize
     requires { ⌜ kind < room-kinds room ⌝ }
     ensures { λ r. ⌜ r ≡ kind-start room kind ⌝ }
@@ -36,6 +39,7 @@ fn kind_start(room: Room, kind: usize) -> usize
     1 + kind * block(room)
 }
 
+// Where a way of a kind begins.
 pub fn way_start(room: Room, kind: usize, way: usize) -> usize
     requires { ⌜ kind < room-kinds room ⌝ ∗ ⌜ way < room-ways room ⌝ }
     ensures is { λ r. ⌜ r ≡ way-start room kind way ⌝ }
@@ -44,6 +48,7 @@ pub fn way_start(room: Room, kind: usize, way: usize) -> usize
     kind_start(room, kind) + 1 + WAY * way
 }
 
+// How many kinds a row says that it has.
 pub fn kinds_count(row: &[u64]) -> u64
     requires { ⌜ 0 < length (now row) ⌝ }
     ensures { λ r. ⌜ r ≡ kinds-count (now (row .entry)) ⌝ }
@@ -51,6 +56,7 @@ pub fn kinds_count(row: &[u64]) -> u64
     row[0]
 }
 
+// How many ways a kind says that it has.
 pub fn ways_count(row: &[u64], room: Room, kind: usize) -> u64
     requires { ⌜ row-length room ≤ length (now row) ⌝ ∗ ⌜ kind < room-kinds room ⌝ }
     ensures { λ r. ⌜ r ≡ ways-count room (now (row .entry)) kind ⌝ }
@@ -66,6 +72,7 @@ pub fn tag_at(row: &[u64], way: usize) -> u64
     row[way]
 }
 
+// The way that begins at `way`.
 pub fn way_at(row: &[u64], way: usize) -> Way
     requires { ⌜ way + 16 ≤ length (now row) ⌝ }
     ensures { λ r. ⌜ r ≡ shape (way-from (now (row .entry)) way) ⌝ }
@@ -94,6 +101,7 @@ fn place_start(way: usize, index: usize) -> usize
     way + PLACES + PLACE * index
 }
 
+// A place of the record that begins at `way`.
 pub fn place_at(row: &[u64], way: usize, index: usize) -> Place
     requires { ⌜ way + 16 ≤ length (now row) ⌝ ∗ ⌜ index < 4 ⌝ }
     ensures { λ r. ⌜ r ≡ place-in (now (row .entry)) way index ⌝ }

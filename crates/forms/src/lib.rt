@@ -20,8 +20,4 @@ pub use checking::is_form;
 pub use room::Room;
 pub use view::FormView;
 pub use way::Place;
-pub use way::PlaceDebug;
-pub use way::PlacePartialEq;
 pub use way::Way;
-pub use way::WayDebug;
-pub use way::WayPartialEq;

@@ -1,13 +1,14 @@
-// Opening a row as a form, and reading the form's parts.
+// Reading the parts of a form.
 //
-// As with a slice's index, the caller sees to it that the part asked for is there.
+// As with the index of a slice, the caller sees to it that the part is there.
 ghost use denote.Ref.{now};
 ghost use lib.ListN.{length};
 ghost use mathlib.Core.Path.{_≡_};
 ghost use Prim.Native.Nat.{_+_, _^_, _<_, _≤_};
 ghost use Rattle.std.specs.Options.{Cases as BySome};
 ghost use Rattle.forms.specs.Form.{shape, shape-places, ways-at, way-at, places-of, place-at};
-ghost use Rattle.forms.specs.Layout.{Keeps-to, room-kinds, room-ways};
+ghost use Rattle.forms.specs.Fits.{Keeps-to};
+ghost use Rattle.forms.specs.Layout.{room-kinds, room-ways};
 ghost use Rattle.forms.specs.View.{form-of};
 use crate::layout;
 use crate::view::FormView;
@@ -15,6 +16,7 @@ use crate::way::Place;
 use crate::way::Way;
 
 impl<'a> FormView<'a> {
+    // How many kinds there are.
     pub fn kinds(&self) -> usize
         ensures is { λ r. ⌜ r ≡ length (form-of (now (self .entry))) ⌝ }
         ensures some { λ r. ⌜ 1 ≤ r ⌝ }
@@ -43,6 +45,7 @@ impl<'a> FormView<'a> {
         layout::ways_count(self.row, self.room, kind) as usize
     }
 
+    // One way of a kind.
     pub fn way(&self, kind: usize, way: usize) -> Way
         requires kind_there { ⌜ kind < length (form-of (now self)) ⌝ }
         requires way_there { ⌜ way < length (ways-at (form-of (now self)) kind) ⌝ }

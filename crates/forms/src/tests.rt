@@ -1,12 +1,7 @@
 // Forms at the bounds, each way in which a row is none, and the order of the refusals.
 use crate::FormView;
-use crate::Place;
-use crate::PlaceDebug;
-use crate::PlacePartialEq;
 use crate::Room;
 use crate::Way;
-use crate::WayDebug;
-use crate::WayPartialEq;
 use crate::is_form;
 use crate::one_form;
 use crate::two_forms;
@@ -93,35 +88,20 @@ fn reads_a_form_at_every_bound() -> Result<(), Fail> {
     let form = FormView::new(&row, Room::Plain);
     check(form.kinds() == 4)?;
     check(form.ways(0) == 3)?;
-    check_eq(form.way(0, 0), Way::Number { from: TOP, to: TOP })?;
-    check_eq(
-        form.way(0, 1),
-        Way::List {
-            kind: 3,
-            least: 16,
-            most: 16,
-        },
-    )?;
+    let Way::Number { from, to } = form.way(0, 0) else {
+        return Err(Fail::new("no number"));
+    };
+    check_eq((from, to), (TOP, TOP))?;
+    let Way::List { kind, least, most } = form.way(0, 1) else {
+        return Err(Fail::new("no list"));
+    };
+    check_eq((kind, least, most), (3, 16, 16))?;
     let Way::Record { places } = form.way(0, 2) else {
         return Err(Fail::new("no record"));
     };
     check(places == 4)?;
-    check_eq(
-        form.place(0, 2, 0),
-        Place {
-            name: 0,
-            kind: 0,
-            must: false,
-        },
-    )?;
-    check_eq(
-        form.place(0, 2, 3),
-        Place {
-            name: TOP,
-            kind: 3,
-            must: true,
-        },
-    )
+    let place = form.place(0, 2, 3);
+    check_eq((place.name, place.kind, place.must), (TOP, 3, true))
 }
 
 #[test]

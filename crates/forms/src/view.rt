@@ -3,7 +3,8 @@ ghost use denote.Ref.{now};
 ghost use mathlib.Core.Bool.{true};
 ghost use mathlib.Core.Path.{_≡_};
 ghost use Rattle.forms.specs.Form.{proper, Closed, Bounded};
-ghost use Rattle.forms.specs.Layout.{form-fits, form-in, room-kinds, room-ways};
+ghost use Rattle.forms.specs.Fits.{form-fits};
+ghost use Rattle.forms.specs.Layout.{form-in, room-kinds, room-ways};
 use crate::room::Room;
 
 #[derive(Clone, Copy)]

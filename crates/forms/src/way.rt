@@ -3,7 +3,7 @@ ghost use mathlib.Core.Path.{_≡_};
 ghost use Rattle.forms.specs.Form.{shape-places};
 
 // One field that a record may have: its name, the kind of paper that stands there, and whether it must be filled.
-#[derive(Clone, Copy, PartialEq, Debug)]
+#[derive(Clone, Copy)]
 pub struct Place {
     pub name: u64,
     pub kind: usize,
@@ -11,7 +11,7 @@ pub struct Place {
 }
 
 // One way in which a paper of a kind may look.
-#[derive(Clone, Copy, PartialEq, Debug)]
+#[derive(Clone, Copy)]
 pub enum Way {
     // A number in a range, both ends included.
     Number {

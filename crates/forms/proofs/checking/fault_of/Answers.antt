@@ -1,7 +1,7 @@
 use mathlib.Core.Path.{_≡_, sym, subst}
 use native.Mathlib.Omega.{arith}
 use Rattle.std.proofs.shelf.Ways.{tells}
-use Rattle.forms.specs.Layout.{fault, First-fault}
+use Rattle.forms.specs.Fits.{fault, First-fault}
 use Rattle.forms.proofs.Fitting.{fault-first}
 use Rattle.forms.proofs.checking.fault_of.Needs as need
 

@@ -1,7 +1,7 @@
 use mathlib.Core.Path.{_≡_, sym}
 use borrow.Author.Needs.{needs}
 use native.Mathlib.Omega.{arith}
-use Rattle.forms.specs.Layout.{kind-fits}
+use Rattle.forms.specs.Fits.{kind-fits}
 use Rattle.forms.proofs.Every.{every-none, every-more, first-failing-here, first-failing-none}
 use Rattle.forms.proofs.checking.first_misfit.Needs as need
 

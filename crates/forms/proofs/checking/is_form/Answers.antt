@@ -1,6 +1,7 @@
 use native.Mathlib.Omega.{arith}
 use Rattle.std.proofs.shelf.Ways.{tells}
-use Rattle.forms.specs.Layout.{form-fits, kind-fits, kinds-count}
+use Rattle.forms.specs.Fits.{form-fits, kind-fits}
+use Rattle.forms.specs.Layout.{kinds-count}
 use Rattle.forms.proofs.Every.{every-by-first}
 use Rattle.forms.proofs.checking.is_form.Needs as need
 

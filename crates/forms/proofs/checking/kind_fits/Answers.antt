@@ -1,6 +1,6 @@
 use native.Mathlib.Omega.{arith}
 use Rattle.std.proofs.shelf.Ways.{tells}
-use Rattle.forms.specs.Layout.{kind-fits}
+use Rattle.forms.specs.Fits.{kind-fits}
 use Rattle.forms.proofs.checking.kind_fits.Needs as need
 
 pub returns-then-ways : need.returns-then-ways

@@ -1,6 +1,7 @@
 use native.Mathlib.Omega.{arith}
 use Rattle.std.proofs.shelf.Ways.{tells}
-use Rattle.forms.specs.Layout.{place-in, place-fits}
+use Rattle.forms.specs.Fits.{place-fits}
+use Rattle.forms.specs.Layout.{place-in}
 use Rattle.forms.proofs.checking.place_fits.Needs as need
 
 pub returns-then-mark-at-gt1 : need.returns-then-mark-at-gt1

@@ -1,6 +1,7 @@
 use native.Mathlib.Omega.{arith}
 use Rattle.std.proofs.shelf.Ways.{tells}
-use Rattle.forms.specs.Layout.{way-fits, way-from}
+use Rattle.forms.specs.Fits.{way-fits}
+use Rattle.forms.specs.Layout.{way-from}
 use Rattle.forms.proofs.Parts.{places-of-shape}
 use Rattle.forms.proofs.checking.way_fits.Needs as need
 
