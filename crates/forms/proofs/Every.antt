@@ -1,12 +1,12 @@
 -- Laws of `every` and of `first-failing`.
-use mathlib.Core.Path.{_≡_, refl, sym, subst, ap, _∙_}
+use mathlib.Core.Path.{_≡_, refl, sym, subst, _∙_}
 use mathlib.Core.Bool.{Bool, true, false, cond, _&&_}
 use mathlib.Core.Logic.{_⊎_, inl, inr}
-use Prim.Native.Nat.{ℕ, zero, suc, _+_, _<_, _≤_}
+use Prim.Native.Nat.{ℕ, zero, suc, _+_, _<_}
 use native.Mathlib.Numerals.{add-one}
 use native.Mathlib.Omega.{arith}
 use lib.Dec.{eqb}
-use Rattle.std.proofs.shelf.Tests.{and-parts, and-from, and-left, and-right, cases-order, cond-true, cond-false, cases-bool, eq-eqb, ne-eqb, both-ways}
+use Rattle.std.proofs.shelf.Tests.{and-parts, and-from, cases-order, cases-bool, eq-eqb, ne-eqb, both-ways}
 use Rattle.forms.specs.Fits.{every, first-failing}
 
 pub every-none : (p : ℕ → Bool) → every p 0 ≡ true

@@ -3,7 +3,7 @@ use mathlib.Core.Path.{_≡_, refl, sym, ap, subst, _∙_}
 use mathlib.Core.Bool.{Bool, true, false, _&&_}
 use mathlib.Core.List.{List}
 use mathlib.Core.Logic.{inl, inr}
-use Prim.Native.Nat.{ℕ, _+_, _^_, _<_, _≤_}
+use Prim.Native.Nat.{ℕ, _^_, _<_, _≤_}
 use native.Mathlib.Omega.{arith}
 use lib.Dec.{leb, ltb}
 use lib.ListN.{length, getD}
@@ -33,39 +33,38 @@ counted room row h =
 pub kind-fitting : (room : Room) (row : List ℕ) (k : ℕ) → form-fits room row ≡ true → k < kinds-count row → kind-fits room row k ≡ true
 unfolding form-fits
 kind-fitting room row k h l =
-    every-at (kind-fits room row) (kinds-count row) k
-    (and-parts (count-fits room row) (every (kind-fits room row) (kinds-count row)) h .1) l
+    let p = kind-fits room row in
+    every-at p (kinds-count row) k (and-parts (count-fits room row) (every p (kinds-count row)) h .1) l
 
-pub ways-few : (room : Room) (row : List ℕ) (k : ℕ) → kind-fits room row k ≡ true → ways-count room row k ≤ room-ways room
+-- There is room for the ways of a kind, and each is one.
+kind-parts : (room : Room) (row : List ℕ) (k : ℕ) → kind-fits room row k ≡ true →
+    (ways-count room row k ≤ room-ways room) × (every (way-fits-in room row k) (ways-count room row k) ≡ true)
 unfolding kind-fits
-ways-few room row k h =
-    leb-true (ways-count room row k) (room-ways room)
-    (and-parts (leb (ways-count room row k) (room-ways room)) (every (way-fits-in room row k) (ways-count room row k)) h .0)
+kind-parts room row k h =
+    let n = ways-count room row k in
+    let parts = and-parts (leb n (room-ways room)) (every (way-fits-in room row k) n) h in
+    (leb-true n (room-ways room) (parts .0), parts .1)
 
 pub way-fitting : (room : Room) (row : List ℕ) (k w : ℕ) → kind-fits room row k ≡ true → w < ways-count room row k →
     way-fits (kinds-count row) row (way-start room k w) ≡ true
-unfolding kind-fits way-fits-in
-way-fitting room row k w h l =
-    every-at (way-fits-in room row k) (ways-count room row k) w
-    (and-parts (leb (ways-count room row k) (room-ways room)) (every (way-fits-in room row k) (ways-count room row k)) h .1) l
+unfolding way-fits-in
+way-fitting room row k w h l = every-at (way-fits-in room row k) (ways-count room row k) w (kind-parts room row k h .1) l
 
-pub way-limits : (n : ℕ) (row : List ℕ) (at : ℕ) → way-fits n row at ≡ true → within-limits n (shape (way-from row at)) ≡ true
+-- A way keeps to the limits, and each of its places is one.
+way-parts : (n : ℕ) (row : List ℕ) (at : ℕ) → way-fits n row at ≡ true →
+    (within-limits n (shape (way-from row at)) ≡ true)
+    × (every (place-fits n row at) (length (places-of (way-from row at))) ≡ true)
 unfolding way-fits
-way-limits n row at h =
-    and-parts (within-limits n (shape (way-from row at))) (every (place-fits n row at) (length (places-of (way-from row at))))
-    (and-parts (leb (getD row at 0) 2)
-    (within-limits n (shape (way-from row at)) && every (place-fits n row at) (length (places-of (way-from row at)))) h .1) .0
+way-parts n row at h =
+    let limits = within-limits n (shape (way-from row at)) in
+    let places = every (place-fits n row at) (length (places-of (way-from row at))) in
+    and-parts limits places (and-parts (leb (getD row at 0) 2) (limits && places) h .1)
 
 pub place-fitting : (n : ℕ) (row : List ℕ) (at i : ℕ) → way-fits n row at ≡ true → i < length (places-of (way-from row at)) →
     place-fits n row at i ≡ true
-unfolding way-fits
-place-fitting n row at i h l =
-    every-at (place-fits n row at) (length (places-of (way-from row at))) i
-    (and-parts (within-limits n (shape (way-from row at))) (every (place-fits n row at) (length (places-of (way-from row at))))
-    (and-parts (leb (getD row at 0) 2)
-    (within-limits n (shape (way-from row at)) && every (place-fits n row at) (length (places-of (way-from row at)))) h .1) .1)
-    l
+place-fitting n row at i h l = every-at (place-fits n row at) (length (places-of (way-from row at))) i (way-parts n row at h .1) l
 
+-- A place's kind is there, and its name is small enough and above the last.
 pub record Placed (n : ℕ) (row : List ℕ) (at i : ℕ) : Type 0 where
   pub kind : kind-in row at i < n
   pub name : name-in row at i < 2 ^ 32
@@ -112,7 +111,7 @@ kind-there room row k h l =
       room-for = omega arith;
       long = c .long;
       ways = ways-count-of-form room row k there;
-      few = ways-few room row k (kind-fitting room row k h there);
+      few = kind-parts room row k (kind-fitting room row k h there) .0;
     }
 
 -- A way of a form, found in the row.
@@ -129,14 +128,16 @@ way-there room row k w h l m =
     let c = kind-there room row k h l in
     let there : w < ways-count room row k = omega arith in
     let room-for : w < room-ways room = omega arith in
+    let n = length (form-in room row) in
+    let at = way-start room k w in
     let is = way-of-form room row k w (c .there) there in
-    let fits : way-fits (length (form-in room row)) row (way-start room k w) ≡ true =
+    let fits : way-fits n row at ≡ true =
     rw kinds-of-form (way-fitting room row k w (kind-fitting room row k h (c .there)) there) in
     record {
       room-for = room-for;
       is = is;
       fits = fits;
-      keeps = rw is (keeps-to (length (form-in room row)) (shape (way-from row (way-start room k w))) (way-limits (length (form-in room row)) row (way-start room k w) fits));
+      keeps = rw is (keeps-to n (shape (way-from row at)) (way-parts n row at fits .0));
     }
 
 -- A place of a form, found in the row.

@@ -1,6 +1,5 @@
 -- Kinds and ways lie within their row.
-use mathlib.Core.Path.{_≡_, refl}
-use Prim.Native.Nat.{ℕ, _+_, _*_, _<_, _≤_}
+use Prim.Native.Nat.{ℕ, _+_, _<_, _≤_}
 use native.Mathlib.Omega.{arith}
 use Rattle.forms.specs.declared.room.Room.{Room}
 use Rattle.forms.specs.declared.room.Room.the-variants.{Plain, Both, Either}

@@ -8,7 +8,7 @@ use Rattle.std.proofs.shelf.Counted.{length-map-counting, getD-map-counting, fi
 use Rattle.forms.specs.declared.room.Room.{Room}
 use Rattle.forms.specs.declared.way.Place.{Place}
 use Rattle.forms.specs.declared.way.Way.the-variants.{Record}
-use Rattle.forms.specs.Form.{Form, Way, number, list, record-of, ways-at, way-at, places-of, shape, shape-places}
+use Rattle.forms.specs.Form.{Way, number, list, record-of, ways-at, way-at, places-of, shape, shape-places}
 use Rattle.forms.specs.Layout.{listed, form-in, ways-in, way-in, way-by, place-in, kinds-count, ways-count}
 
 pub length-listed : {X : Type 0} → (f : ℕ → X) (n : ℕ) → length (listed f n) ≡ n

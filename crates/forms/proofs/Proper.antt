@@ -1,14 +1,13 @@
 -- The form in a row that is one is proper, closed and bounded.
-use mathlib.Core.Path.{_≡_, refl, sym, ap, subst, _∙_}
-use mathlib.Core.Bool.{Bool, true, false, _&&_, _||_}
+use mathlib.Core.Path.{_≡_, refl, ap, subst}
+use mathlib.Core.Bool.{true, _||_}
 use mathlib.Core.List.{List, [], _∷_}
 use mathlib.Core.Logic.{inl, inr}
-use Prim.Native.Nat.{ℕ, zero, suc, _+_, _-_, _^_, _<_, _≤_}
+use Prim.Native.Nat.{ℕ, suc, _-_, _^_, _<_}
 use native.Mathlib.Omega.{arith}
 use lib.Dec.{eqb, ltb}
 use lib.ListN.{length, getD}
 use Rattle.std.proofs.shelf.Tests.{and-from, or-cases, eqb-true, lt-ltb, ltb-true}
-use Rattle.std.proofs.shelf.Ways.{tells}
 use Rattle.forms.specs.declared.room.Room.{Room}
 use Rattle.forms.specs.declared.way.Place.{Place}
 use Rattle.forms.specs.Form.{Form, Way, number, list, record-of, shape, no-place, ways-at, way-at, places-of, place-at, rising, proper-ways, proper, kinds-there-places, kinds-there-ways, Closed, Bounded, Bounded-way}

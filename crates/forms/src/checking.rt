@@ -2,7 +2,7 @@
 ghost use lib.ListN.{length};
 ghost use mathlib.Core.Bool.{false};
 ghost use mathlib.Core.Path.{_≡_};
-ghost use Prim.Native.Nat.{_+_, _^_, _<_, _≤_};
+ghost use Prim.Native.Nat.{_+_, _<_, _≤_};
 ghost use Rattle.forms.specs.Fits.{every, first-failing, place-fits, name-above, within-limits, way-fits, way-fits-in, kind-fits, count-fits, form-fits, fault, First-fault};
 ghost use Rattle.forms.specs.Layout.{row-length, room-kinds, room-ways, kinds-count};
 use crate::layout;

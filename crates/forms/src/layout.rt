@@ -3,7 +3,7 @@ ghost use lib.ListN.{getD, length};
 ghost use mathlib.Core.Path.{_≡_};
 ghost use Prim.Native.Nat.{_+_, _^_, _<_, _≤_};
 ghost use Rattle.forms.specs.Form.{shape};
-ghost use Rattle.forms.specs.Layout.{row-length, kind-start, way-start, kinds-count, ways-count, name-in, mark-in, place-in, place-start, way-from, block-length, room-kinds, room-ways};
+ghost use Rattle.forms.specs.Layout.{row-length, kind-start, way-start, kinds-count, ways-count, mark-in, place-in, place-start, way-from, block-length, room-kinds, room-ways};
 use crate::room::Room;
 use crate::way::Place;
 use crate::way::Way;

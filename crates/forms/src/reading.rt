@@ -4,7 +4,7 @@
 ghost use denote.Ref.{now};
 ghost use lib.ListN.{length};
 ghost use mathlib.Core.Path.{_≡_};
-ghost use Prim.Native.Nat.{_+_, _^_, _<_, _≤_};
+ghost use Prim.Native.Nat.{_^_, _<_, _≤_};
 ghost use Rattle.std.specs.Options.{Cases as BySome};
 ghost use Rattle.forms.specs.Form.{shape, shape-places, ways-at, way-at, places-of, place-at};
 ghost use Rattle.forms.specs.Fits.{Keeps-to};

@@ -1,5 +1,4 @@
 use mathlib.Core.Path.{_≡_, sym}
-use borrow.Author.Needs.{needs}
 use native.Mathlib.Omega.{arith}
 use Rattle.forms.specs.Fits.{kind-fits}
 use Rattle.forms.proofs.Every.{every-none, every-more, first-failing-here, first-failing-none}

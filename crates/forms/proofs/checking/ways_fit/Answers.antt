@@ -1,5 +1,5 @@
 use mathlib.Core.Path.{sym}
-use Rattle.forms.specs.Fits.{way-fits, way-fits-in}
+use Rattle.forms.specs.Fits.{way-fits-in}
 use Rattle.forms.proofs.Every.{every-none, every-more, every-off}
 use Rattle.forms.proofs.checking.ways_fit.Needs as need
 

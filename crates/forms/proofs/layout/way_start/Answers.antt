@@ -1,4 +1,3 @@
-use borrow.Author.Needs.{needs}
 use native.Mathlib.Omega.{arith}
 use Rattle.forms.specs.Layout.{way-start}
 use Rattle.forms.proofs.layout.way_start.Needs as need

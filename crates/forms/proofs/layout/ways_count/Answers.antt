@@ -1,4 +1,3 @@
-use borrow.Author.Needs.{needs}
 use native.Mathlib.Omega.{arith}
 use Rattle.forms.proofs.Offsets.{kind-within, row-short}
 use Rattle.forms.proofs.layout.ways_count.Needs as need
