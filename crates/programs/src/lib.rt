@@ -1,10 +1,18 @@
 // What the programs share: command lines, and files of numbers.
 
 mod bytes;
+mod ending;
+mod file;
+mod kind;
 mod line;
 
-pub use bytes::numbers;
+// Command lines, and how a program ends.
+pub use ending::finish;
+pub use kind::kind_of;
 pub use line::Command;
 pub use line::Word;
 pub use line::parse;
 pub use line::word_of;
+// Files and streams of numbers.
+pub use bytes::numbers;
+pub use file::row_of;

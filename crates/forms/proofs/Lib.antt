@@ -1,0 +1,6 @@
+pub mod Every
+pub mod Offsets
+pub mod Parts
+pub mod Fitting
+pub mod Proper
+pub mod Views

@@ -1,0 +1,35 @@
+-- What is answered where one form is asked about a kind, or two forms about one kind each: the kinds, or the first thing that
+-- is wrong, in the order of the refusals' numbers. Assumes nothing.
+use mathlib.Core.Bool.{Bool, cond}
+use mathlib.Core.List.{List}
+use Prim.Native.Nat.{ℕ}
+use lib.Dec.{ltb}
+use lib.ListN.{length}
+use Rattle.std.specs.declared.result.Result.{Result}
+use Rattle.std.specs.declared.result.Result.the-variants.{Ok, Err}
+use Rattle.papers.specs.declared.refusal.Refusal.{Refusal}
+use Rattle.papers.specs.declared.refusal.Refusal.the-variants.{FirstForm, SecondForm, NoKind}
+use Rattle.forms.specs.declared.room.Room.{Room}
+use Rattle.forms.specs.declared.room.Room.the-variants.{Plain}
+use Rattle.forms.specs.Fits.{form-fits, fault}
+use Rattle.forms.specs.Layout.{form-in}
+
+-- What follows if a test holds, and else a refusal.
+abbrev pub refuse-unless : {X : Type 0} → Bool → Refusal → Result X Refusal → Result X Refusal
+refuse-unless holds refusal next = cond holds next (Err refusal)
+
+-- One form in a row, and a kind of it.
+abbrev pub one-asked : Room → List ℕ → ℕ → Result ℕ Refusal
+one-asked room row k =
+    refuse-unless (form-fits room row) (FirstForm (fault room row))
+    (refuse-unless (ltb k (length (form-in room row))) (NoKind k)
+    (Ok k))
+
+-- Two plain forms, and a kind of each.
+abbrev pub two-asked : List ℕ → List ℕ → ℕ → ℕ → Result (ℕ × ℕ) Refusal
+two-asked one two k j =
+    refuse-unless (form-fits Plain one) (FirstForm (fault Plain one))
+    (refuse-unless (form-fits Plain two) (SecondForm (fault Plain two))
+    (refuse-unless (ltb k (length (form-in Plain one))) (NoKind k)
+    (refuse-unless (ltb j (length (form-in Plain two))) (NoKind j)
+    (Ok (k, j)))))

@@ -1,0 +1,99 @@
+// Takes or refuses papers, one after the other, from standard input.
+mod stream;
+
+use forms::Room;
+use forms::one_form;
+use papers::RefusalDisplay;
+use papers::read;
+use programs::finish;
+use programs::kind_of;
+use programs::parse;
+use programs::row_of;
+use std::env;
+use std::error::AnyError;
+use std::io::BufReader;
+use std::io::BufWriter;
+use std::io::Stdin;
+use std::io::Stdout;
+use std::io::Write;
+use stream::next_paper;
+
+const HELP: &str = "\
+take_papers FORM [K]
+
+Says of each paper on standard input whether the form in the file FORM takes it as kind K, which is 0 where it is left
+out.
+
+A form is 197 numbers, four bytes each, the low byte first. A paper comes as the count of its numbers, at most 1000, and
+these: 0 and a number; 1, a count and so many papers; 2, a count and so many fields by rising name, each a name and a
+paper.
+
+It prints one line for each paper:
+  taken            the form takes it
+  not taken        the form does not
+  refused 5 at 3   it is no paper, as the number at place 3 shows
+  refused 6 at 3   it is more than 256 deep, the next level begins at place 3
+
+If the file holds no form, or the form has no kind K, it prints one line and reads no paper:
+  refused 1 at 2   the file holds no form: kind 2 is at fault; 4 stands for the count of kinds or a short file
+  refused 3 at 7   the form has no kind 7
+
+Options:
+  --exit-code   end with status 1 where an answer is `not taken` or `refused`
+  --help        print this text
+";
+
+// Answers every paper of the stream, and says whether all were taken.
+fn answer_all(
+    rt: &LibcRuntime,
+    input: &mut BufReader<Stdin>,
+    out: &mut BufWriter<Stdout>,
+) -> Result<bool, AnyError> {
+    let heap = rt.alloc();
+    let mut all_taken = true;
+    for number in 1..u64::MAX {
+        let Some(row) = next_paper(heap, input, number)? else {
+            break;
+        };
+        let Err(refusal) = read(&row) else {
+            return Err(format!(
+                heap,
+                "paper {number}: taking a paper is not implemented yet"
+            )?.into());
+        };
+        all_taken = false;
+        writeln!(out, "{refusal}")?;
+    }
+    Ok(all_taken)
+}
+
+// Whether the exit status is to be 0.
+fn run(rt: &LibcRuntime) -> Result<bool, AnyError> {
+    let heap = rt.alloc();
+    let command = parse(heap, env::args(rt)?)?;
+    if command.help {
+        rt.print(HELP)?;
+        return Ok(true);
+    }
+    let words = command.words.as_slice();
+    if words.len() < 1 || words.len() > 2 {
+        return Err("it takes a form and up to one kind: see --help".into());
+    }
+    let k = kind_of(heap, words.get(1), 0)?;
+    let form = row_of(rt, words[0].as_str())?;
+    if let Err(refusal) = one_form(&form, Room::Plain, k) {
+        println!(rt, "{refusal}")?;
+        return Ok(!command.exit_code);
+    }
+    let mut input = BufReader::new(rt.stdin());
+    let mut out = BufWriter::new(rt.stdout());
+    let answered = answer_all(rt, &mut input, &mut out);
+    // What was answered is written even where the stream then failed.
+    out.flush()?;
+    Ok(answered? || !command.exit_code)
+}
+
+fn main(rt: LibcRuntime) -> Result<(), AnyError> {
+    let result = run(&rt);
+    finish(&rt, "take_papers", result)
+}
