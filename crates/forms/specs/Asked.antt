@@ -1,8 +1,9 @@
 -- What is answered where one form is asked about a kind, or two forms about one kind each: the kinds, or the first thing that
 -- is wrong, in the order of the refusals' numbers. Assumes nothing.
-use mathlib.Core.Bool.{Bool, cond}
+use mathlib.Core.Path.{_≡_}
+use mathlib.Core.Bool.{Bool, true, cond}
 use mathlib.Core.List.{List}
-use Prim.Native.Nat.{ℕ}
+use Prim.Native.Nat.{ℕ, _<_}
 use lib.Dec.{ltb}
 use lib.ListN.{length}
 use Rattle.std.specs.declared.result.Result.{Result}
@@ -13,6 +14,10 @@ use Rattle.forms.specs.declared.room.Room.{Room}
 use Rattle.forms.specs.declared.room.Room.the-variants.{Plain}
 use Rattle.forms.specs.Fits.{form-fits, fault}
 use Rattle.forms.specs.Layout.{form-in}
+
+-- The row is a form, and has the kind.
+abbrev pub Has-kind : Room → List ℕ → ℕ → Type 0
+Has-kind room row k = (form-fits room row ≡ true) × (k < length (form-in room row))
 
 -- What follows if a test holds, and else a refusal.
 abbrev pub refuse-unless : {X : Type 0} → Bool → Refusal → Result X Refusal → Result X Refusal

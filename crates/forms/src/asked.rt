@@ -1,14 +1,9 @@
 // What is asked of one form or of two, or the refusal that comes first.
 ghost use denote.Ref.{now};
-ghost use lib.ListN.{length};
-ghost use mathlib.Core.Bool.{true};
 ghost use mathlib.Core.Path.{_≡_};
-ghost use Prim.Native.Nat.{_<_};
 ghost use Rattle.std.specs.Vec.{made};
 ghost use Rattle.forms.specs.declared.room.Room.the-variants.{Plain};
-ghost use Rattle.forms.specs.Asked.{one-asked, two-asked};
-ghost use Rattle.forms.specs.Fits.{form-fits};
-ghost use Rattle.forms.specs.Layout.{form-in};
+ghost use Rattle.forms.specs.Asked.{one-asked, two-asked, Has-kind};
 use crate::checking::fault_of;
 use crate::checking::is_form;
 use crate::room::Room;
@@ -18,7 +13,7 @@ use papers::Refusal;
 // The kind asked, if the row is a form that has it.
 pub fn one_form(row: &[u64], room: Room, k: u64) -> Result<usize, Refusal>
     ensures is { λ r. ⌜ r ≡ one-asked room (now (row .entry)) k ⌝ }
-    ensures fits { λ r. ⌜ made r (λ kind. (form-fits room (now (row .entry)) ≡ true) × (kind < length (form-in room (now (row .entry))))) ⌝ }
+    ensures fits { λ r. ⌜ made r (λ kind. Has-kind room (now (row .entry)) kind) ⌝ }
 {
     if !is_form(row, room) {
         return Err(Refusal::FirstForm(fault_of(row, room)));
@@ -32,8 +27,8 @@ pub fn one_form(row: &[u64], room: Room, k: u64) -> Result<usize, Refusal>
 // The kinds asked, if both rows are forms that have them.
 pub fn two_forms(one: &[u64], two: &[u64], k: u64, j: u64) -> Result<(usize, usize), Refusal>
     ensures is { λ r. ⌜ r ≡ two-asked (now (one .entry)) (now (two .entry)) k j ⌝ }
-    ensures first { λ r. ⌜ made r (λ kinds. (form-fits Plain (now (one .entry)) ≡ true) × (kinds .0 < length (form-in Plain (now (one .entry))))) ⌝ }
-    ensures second { λ r. ⌜ made r (λ kinds. (form-fits Plain (now (two .entry)) ≡ true) × (kinds .1 < length (form-in Plain (now (two .entry))))) ⌝ }
+    ensures first { λ r. ⌜ made r (λ kinds. Has-kind Plain (now (one .entry)) (kinds .0)) ⌝ }
+    ensures second { λ r. ⌜ made r (λ kinds. Has-kind Plain (now (two .entry)) (kinds .1)) ⌝ }
 {
     if !is_form(one, Room::Plain) {
         return Err(Refusal::FirstForm(fault_of(one, Room::Plain)));
