@@ -1,7 +1,7 @@
 -- One number at a time from the front of the bytes, and one word more of a command. Assumes nothing.
 use mathlib.Core.Path.{_≡_, refl, sym, ap, subst, _∙_}
 use mathlib.Core.List.{List, [], _∷_, _++_, append-assoc, append-nil}
-use Prim.Native.Nat.{ℕ, _-_, _≤_, _<_}
+use Prim.Native.Nat.{ℕ, _-_, _/_, _≤_, _<_}
 use native.Mathlib.Omega.{arith}
 use lib.ListN.{length, getD, take, drop}
 use Rattle.std.proofs.shelf.Lists.{take-rest}
@@ -28,6 +28,15 @@ no-number (a ∷ []) h = refl
 no-number (a ∷ b ∷ []) h = refl
 no-number (a ∷ b ∷ c ∷ []) h = refl
 no-number (a ∷ b ∷ c ∷ d ∷ xs) h = absurd (omega arith)
+
+-- four bytes make a number
+pub numbers-length : (xs : List ℕ) → length (numbers-in xs) ≡ length xs / 4
+unfolding numbers-in
+numbers-length [] = omega arith
+numbers-length (a ∷ []) = omega arith
+numbers-length (a ∷ b ∷ []) = omega arith
+numbers-length (a ∷ b ∷ c ∷ []) = omega arith
+numbers-length (a ∷ b ∷ c ∷ d ∷ xs) = omega (arith, numbers-length xs)
 
 -- the numbers so far, one more, and those of the rest
 pub one-more : (all later whole xs : List ℕ) (n : ℕ) → all ++ numbers-in xs ≡ whole → 4 ≤ length xs → n ≡ four (getD xs 0 0) (getD xs 1 0) (getD xs 2 0) (getD xs 3 0) → later ≡ all ++ n ∷ [] → later ++ numbers-in (take (length xs - 4) (drop 4 xs)) ≡ whole

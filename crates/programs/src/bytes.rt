@@ -1,6 +1,8 @@
 // Numbers as a file or a stream has them: four bytes each, the low byte first.
 ghost use mathlib.Core.Path.{_≡_};
-ghost use Rattle.std.specs.Of.Vec.{vec-items};
+ghost use lib.ListN.{length};
+ghost use Prim.Native.Nat.{_/_};
+ghost use Rattle.std.specs.Of.Vec.{vec-items, vec-len};
 ghost use Rattle.std.specs.Vec.{made};
 ghost use Rattle.programs.specs.Bytes.{four, numbers-in};
 use std::alloc::AllocError;
@@ -8,7 +10,8 @@ use std::alloc::Global;
 
 // The numbers of these bytes; up to three bytes at the end that make no number are left out.
 pub fn numbers(heap: Global, bytes: &[u8]) -> Result<Vec<u64>, AllocError>
-    ensures { λ r. ⌜ made r (λ v. vec-items v ≡ numbers-in (now (bytes .entry))) ⌝ }
+    ensures is { λ r. ⌜ made r (λ v. vec-items v ≡ numbers-in (now (bytes .entry))) ⌝ }
+    ensures len { λ r. ⌜ made r (λ v. vec-len v ≡ length (now (bytes .entry)) / 4) ⌝ }
 {
     let mut all = Vec::new(heap);
     let mut rest = bytes;
