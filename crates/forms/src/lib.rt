@@ -14,6 +14,7 @@ mod tests;
 mod view;
 mod way;
 
+pub use asked::kinds_of;
 pub use asked::one_form;
 pub use asked::two_forms;
 pub use checking::is_form;

@@ -5,7 +5,6 @@ ghost use denote.Ref.{now};
 ghost use lib.ListN.{length};
 ghost use mathlib.Core.Path.{_≡_};
 ghost use Prim.Native.Nat.{_^_, _<_, _≤_};
-ghost use Rattle.std.specs.Options.{Cases as BySome};
 ghost use Rattle.forms.specs.Form.{shape, shape-places, ways-at, way-at, places-of, place-at};
 ghost use Rattle.forms.specs.Fits.{Keeps-to};
 ghost use Rattle.forms.specs.Layout.{room-kinds, room-ways};
@@ -23,17 +22,6 @@ impl<'a> FormView<'a> {
         ensures few { λ r. ⌜ r ≤ room-kinds (now (self .entry) .room) ⌝ }
     {
         layout::kinds_count(self.row) as usize
-    }
-
-    // The kind of a number, if it is there.
-    pub fn kind(&self, number: u64) -> Option<usize>
-        ensures { λ r. ⌜ BySome r (length (form-of (now (self .entry))) ≤ number) (λ k. (k ≡ number) × (number < length (form-of (now (self .entry))))) ⌝ }
-    {
-        if number < self.kinds() as u64 {
-            Some(number as usize)
-        } else {
-            None
-        }
     }
 
     // How many ways a kind has.
