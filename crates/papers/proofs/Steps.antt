@@ -15,7 +15,9 @@ use Rattle.std.specs.Results.{ErrBy}
 use Rattle.std.proofs.shelf.Results.{err-from-errBy}
 use Rattle.papers.specs.declared.reading.Fault.{Fault}
 use Rattle.papers.specs.declared.reading.Part.{Part}
-use Rattle.papers.specs.Telling.{Told}
+use Rattle.papers.specs.declared.reading.Start.{Start}
+use Rattle.papers.specs.declared.reading.Start.the-variants.{Number, List as List-start, Record}
+use Rattle.papers.specs.Telling.{start-number, Told}
 use Rattle.papers.specs.declared.reading.Why.{Why}
 use Rattle.papers.specs.declared.reading.Why.the-variants.{NoPaper, Deeper}
 use Rattle.papers.specs.Row.{limit}
@@ -40,9 +42,10 @@ number-wrong low [] h k = absurd (omega arith)
 number-wrong low (x ∷ xs) h (inl k) = cond-false (leb low x && ltb x limit) (done x xs) (fault NoPaper (x ∷ xs)) (and-left (leb low x) (ltb x limit) (lt-leb low x k))
 number-wrong low (x ∷ xs) h (inr k) = cond-false (leb low x && ltb x limit) (done x xs) (fault NoPaper (x ∷ xs)) (and-right (leb low x) (ltb x limit) (le-ltb x limit k))
 
-pub number-right : (low : ℕ) (xs : List ℕ) → 0 < length xs → low ≤ getD xs 0 0 → getD xs 0 0 < limit → number-from low xs ≡ done (getD xs 0 0) (rest-of xs)
-number-right low [] h k l = absurd (omega arith)
-number-right low (x ∷ xs) h k l = number-reads low x xs k l ∙ ap (done x) (sym (take-rest (x ∷ xs) 1))
+pub number-right : (low v : ℕ) (xs : List ℕ) → 0 < length xs → v ≡ getD xs 0 0 → low ≤ v → v < limit → number-from low xs ≡ done v (rest-of xs)
+number-right low v [] h z k l = absurd (omega arith)
+number-right low v (x ∷ xs) h z k l =
+    subst (λ y. number-from low (y ∷ xs) ≡ done v (rest-of (y ∷ xs))) z (number-reads low v xs k l ∙ ap (done v) (sym (take-rest (v ∷ xs) 1)))
 
 -- equal functions put in equal things
 into-same : {A B : Type 0} (f g : A → B) → ((a : A) → f a ≡ g a) → (o : Outcome A) → into f o ≡ into g o
@@ -188,6 +191,12 @@ paper-too-deep zero (suc zero ∷ xs) z h k = refl
 paper-too-deep zero (suc (suc zero) ∷ xs) z h k = refl
 paper-too-deep zero (suc (suc (suc s)) ∷ xs) z h k = absurd (omega arith)
 paper-too-deep (suc n) xs z h k = absurd (omega arith)
+
+-- a start that is known is at most 2
+pub known-start : (n : ℕ) (start : Start) → start-number start ≡ n → n ≤ 2
+known-start n Number e = omega arith
+known-start n List-start e = omega arith
+known-start n Record e = omega arith
 
 -- how deep a number is
 abbrev pub flat : ℕ → ℕ

@@ -8,6 +8,8 @@ use Rattle.std.specs.declared.result.Result.{Result}
 use Rattle.std.specs.declared.result.Result.the-variants.{Ok, Err}
 use Rattle.papers.specs.declared.reading.Fault.{Fault}
 use Rattle.papers.specs.declared.reading.Part.{Part}
+use Rattle.papers.specs.declared.reading.Start.{Start}
+use Rattle.papers.specs.declared.reading.Start.the-variants.{Number, List as List-start, Record}
 use Rattle.papers.specs.declared.reading.Why.{Why}
 use Rattle.papers.specs.declared.reading.Why.the-variants.{NoPaper, Deeper}
 use Rattle.papers.specs.declared.refusal.Refusal.{Refusal}
@@ -15,6 +17,12 @@ use Rattle.papers.specs.Paper.{Paper, well, deep}
 use Rattle.papers.specs.Row.{row-of, fits}
 use Rattle.papers.specs.Reading.{Outcome, done, fault, read-paper, read-row, deepest}
 use Rattle.papers.specs.Refusals.{number-of, place-of}
+
+-- the number that a paper begins with
+abbrev pub start-number : Start → ℕ
+start-number Number = 0
+start-number List-start = 1
+start-number Record = 2
 
 -- an answer that says what a reading came to: the number and the rest, or why not and how much was left there
 abbrev pub Told : Outcome ℕ → Result Part Fault → Type 0

@@ -1,15 +1,13 @@
 // Reading a paper from the front of a part of a row: three functions that call each other, each over what is left of the
 // row, and each giving back the rest.
+ghost use mathlib.Core.Logic.{_⊎_};
+ghost use mathlib.Core.Path.{_≡_};
+ghost use Prim.Native.Nat.{_<_, _≤_};
+ghost use Rattle.std.specs.Options.{Cases as BySome};
 ghost use Rattle.papers.specs.Paper.{deep, all-deep, fields-deep};
 ghost use Rattle.papers.specs.Reading.{into, number-from, read-list, read-record, read-paper};
-ghost use Rattle.papers.specs.Telling.{Told};
-
-// The starts of a number, a list and a record.
-const NUMBER: u64 = 0;
-
-const LIST: u64 = 1;
-
-const RECORD: u64 = 2;
+ghost use Rattle.papers.specs.Row.{limit};
+ghost use Rattle.papers.specs.Telling.{start-number, Told};
 
 // Every number, name and count of a row is below this.
 const LIMIT: u64 = 0x1_0000_0000;
@@ -36,27 +34,55 @@ pub struct Part<'a> {
     pub rest: &'a [u64],
 }
 
+// How a paper begins.
+#[derive(Clone, Copy)]
+enum Start {
+    Number,
+    List,
+    Record,
+}
+
+// The start that a number stands for, if it does.
+fn start_of(number: u64) -> Option<Start>
+    ensures { λ r. ⌜ BySome r (2 < number) (λ start. start-number start ≡ number) ⌝ }
+{
+    match number {
+        0 => Some(Start::Number),
+        1 => Some(Start::List),
+        2 => Some(Start::Record),
+        _ => None,
+    }
+}
+
+// The number, if it is at least `low` and below the limit.
+fn within(number: u64, low: u64) -> Option<u64>
+    ensures { λ r. ⌜ BySome r ((number < low) ⊎ (limit ≤ number)) (λ n. (n ≡ number) × (low ≤ number) × (number < limit)) ⌝ }
+{
+    if low <= number && number < LIMIT {
+        Some(number)
+    } else {
+        None
+    }
+}
+
 // The next number, at least `low` and below the limit.
 fn number_from(row: &[u64], low: u64) -> Result<Part<'_>, Fault>
     ensures { λ r. ⌜ Told (number-from low (now (row .entry))) r ⌝ }
 {
     let left = row.len();
-    let [value, rest @ ..] = row else {
+    let [first, rest @ ..] = row else {
         return Err(Fault {
             why: Why::NoPaper,
             left,
         });
     };
-    if *value < low || *value >= LIMIT {
+    let Some(value) = within(*first, low) else {
         return Err(Fault {
             why: Why::NoPaper,
             left,
         });
-    }
-    Ok(Part {
-        value: *value,
-        rest,
-    })
+    };
+    Ok(Part { value, rest })
 }
 
 // A paper that is at most `levels` deep: its depth and the rest.
@@ -64,41 +90,41 @@ pub fn read_paper(row: &[u64], levels: u64) -> Result<Part<'_>, Fault>
     ensures { λ r. ⌜ Told (into deep (read-paper levels (now (row .entry)))) r ⌝ }
 {
     let left = row.len();
-    let [start, rest @ ..] = row else {
+    let [first, rest @ ..] = row else {
         return Err(Fault {
             why: Why::NoPaper,
             left,
         });
     };
-    if *start > RECORD {
+    let Some(start) = start_of(*first) else {
         return Err(Fault {
             why: Why::NoPaper,
             left,
         });
-    }
-    if levels == 0 {
+    };
+    let Some(below) = levels.checked_sub(1) else {
         return Err(Fault {
             why: Why::Deeper,
             left,
         });
-    }
-    match *start {
-        NUMBER => {
+    };
+    match start {
+        Start::Number => {
             let number = number_from(rest, 0)?;
             Ok(Part {
                 value: 1,
                 rest: number.rest,
             })
         }
-        LIST => {
-            let papers = read_list(rest, levels - 1)?;
+        Start::List => {
+            let papers = read_list(rest, below)?;
             Ok(Part {
                 value: papers.value + 1,
                 rest: papers.rest,
             })
         }
-        _ => {
-            let fields = read_record(rest, levels - 1)?;
+        Start::Record => {
+            let fields = read_record(rest, below)?;
             Ok(Part {
                 value: fields.value + 1,
                 rest: fields.rest,

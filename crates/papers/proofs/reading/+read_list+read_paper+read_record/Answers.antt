@@ -1,11 +1,12 @@
-use mathlib.Core.Path.{refl, ap, _∙_}
+use mathlib.Core.Path.{refl, sym, ap, _∙_}
 use Prim.Native.Nat.{suc, _+_, _-_, _<_}
 use native.Mathlib.Numerals.{add-one}
 use native.Mathlib.Omega.{arith}
 use borrow.Author.Needs.{needs}
 use lib.ListN.{length, getD}
 use Rattle.papers.specs.Reading.{done, into}
-use Rattle.papers.proofs.Steps.{hands-on, list-begins, list-none, list-goes-on, list-fails, list-ends, record-begins, record-none, record-goes-on, name-fails, field-fails, record-ends, number-shortens, name-below, paper-ends, paper-unknown, paper-too-deep, flat, number-inside, list-inside, record-inside, list-flat, record-flat}
+use Rattle.papers.specs.Telling.{start-number}
+use Rattle.papers.proofs.Steps.{known-start, hands-on, list-begins, list-none, list-goes-on, list-fails, list-ends, record-begins, record-none, record-goes-on, name-fails, field-fails, record-ends, number-shortens, name-below, paper-ends, paper-unknown, paper-too-deep, flat, number-inside, list-inside, record-inside, list-flat, record-flat}
 use Rattle.papers.proofs.reading.+read_list+read_paper+read_record.Needs as need
 
 pub read-list-returns-in-Break-count : need.read-list-returns-in-Break-count
@@ -33,48 +34,48 @@ read-list-returns t c = list-ends (c .args .levels) _ (c .loop .deepest) (c .arg
 pub read-paper-returns-in-rest : need.read-paper-returns-in-rest
 read-paper-returns-in-rest t c = (c .args .row .now, paper-ends (c .args .levels) (c .args .row .now) (search needs), refl)
 
-pub read-paper-returns-then-start-gt-RECORD : need.read-paper-returns-then-start-gt-RECORD
-read-paper-returns-then-start-gt-RECORD t c = (c .args .row .now, paper-unknown (c .args .levels) (c .args .row .now) (search needs) (omega arith), refl)
+pub read-paper-returns-in-rest-start-of : need.read-paper-returns-in-rest-start-of
+read-paper-returns-in-rest-start-of t c = (c .args .row .now, paper-unknown (c .args .levels) (c .args .row .now) (search needs) (c .in-rest-start-of .ensures tt), refl)
 
-pub read-paper-returns-then-levels-eq0 : need.read-paper-returns-then-levels-eq0
-read-paper-returns-then-levels-eq0 t c = (c .args .row .now, paper-too-deep (c .args .levels) (c .args .row .now) (omega arith) (search needs) (omega arith), refl)
+pub read-paper-returns-in-rest-checked-sub : need.read-paper-returns-in-rest-checked-sub
+read-paper-returns-in-rest-checked-sub t c = (c .args .row .now, paper-too-deep (c .args .levels) (c .args .row .now) (omega (arith, c .in-rest-checked-sub .ensures tt)) (search needs) (known-start _ (c .in-Some .start) (c .in-Some .ensures tt)), refl)
 
 pub read-paper-returns-in-Break-number : need.read-paper-returns-in-Break-number
 read-paper-returns-in-Break-number t c =
     let h = c .in-Break-number .ensures tt in
     hands-on _ (c .from-residual .result) (c .in-Break-number .field-0 .0) (c .from-residual .ensures .1)
-    (h .0, number-inside (c .args .levels) (c .args .levels - 1) (c .args .row .now) _ (h .1) (omega arith) (search needs) (c .in-0 .is), h .2)
+    (h .0, number-inside (c .args .levels) (c .in-Some-checked-sub .below) (c .args .row .now) _ (h .1) (omega (arith, c .in-Some-checked-sub .ensures tt .0, c .in-Some-checked-sub .ensures tt .1)) (search needs) (sym (c .in-Some .ensures tt) ∙ ap start-number (c .in-Number .is)), h .2)
 
 pub read-paper-returns-in-Break-papers : need.read-paper-returns-in-Break-papers
 read-paper-returns-in-Break-papers t c =
     let h = c .in-Break-papers .ensures tt in
     hands-on _ (c .from-residual-in-Break-papers .result) (c .in-Break-papers .field-0 .0) (c .from-residual-in-Break-papers .ensures .1)
-    (h .0, list-inside (c .args .levels) _ (c .args .row .now) _ (h .1) (omega arith) (search needs) (c .in-1 .is), h .2)
+    (h .0, list-inside (c .args .levels) _ (c .args .row .now) _ (h .1) (omega (arith, c .in-Some-checked-sub .ensures tt .0, c .in-Some-checked-sub .ensures tt .1)) (search needs) (sym (c .in-Some .ensures tt) ∙ ap start-number (c .in-List .is)), h .2)
 
 pub read-paper-add-result : need.read-paper-add-result
-read-paper-add-result t c = omega (arith, list-flat _ _ (c .in-Continue-papers .papers .value) (c .in-Continue-papers .papers .rest .now) (c .in-Continue-papers .ensures tt))
+read-paper-add-result t c = omega (arith, c .in-Some-checked-sub .ensures tt .1, c .in-Some-checked-sub .ensures tt .0, list-flat _ _ (c .in-Continue-papers .papers .value) (c .in-Continue-papers .papers .rest .now) (c .in-Continue-papers .ensures tt))
 
 pub read-paper-returns-in-Break-fields : need.read-paper-returns-in-Break-fields
 read-paper-returns-in-Break-fields t c =
     let h = c .in-Break-fields .ensures tt in
     hands-on _ (c .from-residual-in-Break-fields .result) (c .in-Break-fields .field-0 .0) (c .from-residual-in-Break-fields .ensures .1)
-    (h .0, record-inside (c .args .levels) _ (c .args .row .now) _ (h .1) (omega arith) (search needs) (search needs), h .2)
+    (h .0, record-inside (c .args .levels) _ (c .args .row .now) _ (h .1) (omega (arith, c .in-Some-checked-sub .ensures tt .0, c .in-Some-checked-sub .ensures tt .1)) (search needs) (sym (c .in-Some .ensures tt) ∙ ap start-number (c .in-Record .is)), h .2)
 
-pub read-paper-add-result-in-rest-start : need.read-paper-add-result-in-rest-start
-read-paper-add-result-in-rest-start t c = omega (arith, record-flat _ _ (c .in-Continue-fields .fields .value) (c .in-Continue-fields .fields .rest .now) (c .in-Continue-fields .ensures tt))
+pub read-paper-add-result-in-Record : need.read-paper-add-result-in-Record
+read-paper-add-result-in-Record t c = omega (arith, c .in-Some-checked-sub .ensures tt .1, c .in-Some-checked-sub .ensures tt .0, record-flat _ _ (c .in-Continue-fields .fields .value) (c .in-Continue-fields .fields .rest .now) (c .in-Continue-fields .ensures tt))
 
 pub read-paper-returns-in-Continue-number : need.read-paper-returns-in-Continue-number
 read-paper-returns-in-Continue-number t c =
-    number-inside (c .args .levels) (c .args .levels - 1) (c .args .row .now) _ (c .in-Continue-number .ensures tt) (omega arith) (search needs) (c .in-0 .is)
+    number-inside (c .args .levels) (c .in-Some-checked-sub .below) (c .args .row .now) _ (c .in-Continue-number .ensures tt) (omega (arith, c .in-Some-checked-sub .ensures tt .0, c .in-Some-checked-sub .ensures tt .1)) (search needs) (sym (c .in-Some .ensures tt) ∙ ap start-number (c .in-Number .is))
 
 pub read-paper-returns-in-Continue-papers : need.read-paper-returns-in-Continue-papers
 read-paper-returns-in-Continue-papers t c =
-    list-inside (c .args .levels) _ (c .args .row .now) _ (c .in-Continue-papers .ensures tt) (omega arith) (search needs) (c .in-1 .is)
+    list-inside (c .args .levels) _ (c .args .row .now) _ (c .in-Continue-papers .ensures tt) (omega (arith, c .in-Some-checked-sub .ensures tt .0, c .in-Some-checked-sub .ensures tt .1)) (search needs) (sym (c .in-Some .ensures tt) ∙ ap start-number (c .in-List .is))
     ∙ ap (λ i. done i (c .in-Continue-papers .papers .rest .now)) (omega arith)
 
 pub read-paper-returns-in-Continue-fields : need.read-paper-returns-in-Continue-fields
 read-paper-returns-in-Continue-fields t c =
-    record-inside (c .args .levels) _ (c .args .row .now) _ (c .in-Continue-fields .ensures tt) (omega arith) (search needs) (search needs)
+    record-inside (c .args .levels) _ (c .args .row .now) _ (c .in-Continue-fields .ensures tt) (omega (arith, c .in-Some-checked-sub .ensures tt .0, c .in-Some-checked-sub .ensures tt .1)) (search needs) (sym (c .in-Some .ensures tt) ∙ ap start-number (c .in-Record .is))
     ∙ ap (λ i. done i (c .in-Continue-fields .fields .rest .now)) (omega arith)
 
 pub read-record-returns-in-Break-count : need.read-record-returns-in-Break-count
