@@ -9,8 +9,6 @@ mod checking;
 mod layout;
 mod reading;
 mod room;
-#[cfg(test)]
-mod tests;
 mod view;
 mod way;
 

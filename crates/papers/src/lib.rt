@@ -7,8 +7,6 @@ mod entry;
 mod laws;
 mod reading;
 mod refusal;
-#[cfg(test)]
-mod tests;
 
 // A paper at the front of a row, and a row that is one paper.
 pub use entry::DEEPEST;
@@ -19,7 +17,9 @@ pub use reading::Part;
 pub use reading::Why;
 // What is turned away, for all the crates above.
 pub use refusal::Refusal;
+pub use refusal::RefusalDebug;
 pub use refusal::RefusalDisplay;
+pub use refusal::RefusalPartialEq;
 // The laws of rows.
 pub use laws::only_written;
 pub use laws::prefix_free;

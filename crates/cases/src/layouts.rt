@@ -1,10 +1,10 @@
 // Forms at the bounds, each way in which a row is none, and the order of the refusals.
-use crate::FormView;
-use crate::Room;
-use crate::Way;
-use crate::is_form;
-use crate::one_form;
-use crate::two_forms;
+use forms::FormView;
+use forms::Room;
+use forms::Way;
+use forms::is_form;
+use forms::one_form;
+use forms::two_forms;
 use std::test::*;
 
 const TOP: u64 = 4294967295;

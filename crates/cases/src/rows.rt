@@ -1,11 +1,11 @@
 // Rows that are papers, and rows that are none with the number and place told.
-use crate::DEEPEST;
-use crate::Refusal;
-use crate::read;
-use crate::read_front;
-use crate::reading::Why;
-use crate::refusal::RefusalDebug;
-use crate::refusal::RefusalPartialEq;
+use papers::DEEPEST;
+use papers::Refusal;
+use papers::RefusalDebug;
+use papers::RefusalPartialEq;
+use papers::Why;
+use papers::read;
+use papers::read_front;
 use std::test::*;
 
 // Each row is a paper, so deep.
