@@ -17,9 +17,7 @@ pub use reading::Part;
 pub use reading::Why;
 // What is turned away, for all the crates above.
 pub use refusal::Refusal;
-pub use refusal::RefusalDebug;
 pub use refusal::RefusalDisplay;
-pub use refusal::RefusalPartialEq;
 // The laws of rows.
 pub use laws::only_written;
 pub use laws::prefix_free;

@@ -3,7 +3,7 @@ ghost use mathlib.Core.Path.{_≡_};
 ghost use Rattle.papers.specs.Refusals.{number-of, place-of};
 use std::fmt;
 
-#[derive(Clone, Copy, PartialEq, Debug)]
+#[derive(Clone, Copy)]
 pub enum Refusal {
     // 1: the first form is none. The first kind at fault, or 4 for the count of kinds or a row cut short.
     FirstForm(u64),
