@@ -1,9 +1,11 @@
 // Forms at the bounds, each way in which a row is none, and the order of the refusals.
 use forms::FormView;
 use forms::Room;
+use forms::Side;
 use forms::Way;
 use forms::is_form;
 use forms::one_form;
+use forms::side_of;
 use forms::two_forms;
 use std::test::*;
 
@@ -131,4 +133,17 @@ fn refuses_in_order() -> Result<(), Fail> {
     check_eq(refusal_of_two(&form, &none, 7, 9), (2, 1))?;
     check_eq(refusal_of_two(&form, &form, 7, 9), (3, 7))?;
     check_eq(refusal_of_two(&form, &form, 1, 9), (3, 9))
+}
+
+// A refusal of two forms speaks of the second: 2 always, 3 where the first has its kind.
+#[test]
+fn tells_the_form_at_fault() -> Result<(), Fail> {
+    let form = row_with(&[(0, 2)]);
+    for (k, j, second) in [(7, 9, false), (1, 9, true), (9, 1, false)] {
+        let Err(refusal) = two_forms(&form, &form, k, j) else {
+            return Err(Fail::new("nothing is refused"));
+        };
+        check_eq(matches!(side_of(&form, k, refusal), Side::Second), second)?;
+    }
+    Ok(())
 }

@@ -1,6 +1,7 @@
 // Compares two forms: whether the second takes every paper that the first takes.
+use forms::Side;
+use forms::side_of;
 use forms::two_forms;
-use papers::Refusal;
 use papers::RefusalDisplay;
 use programs::finish;
 use programs::kind_of;
@@ -29,12 +30,11 @@ Options:
   --help        print this text
 ";
 
-// Which form a refusal speaks of.
-fn side(refusal: Refusal, first_kinds: u64) -> &'static str {
-    match refusal {
-        Refusal::SecondForm(_) => "second",
-        Refusal::NoKind(kind) if kind < first_kinds => "second",
-        _ => "first",
+// The word for a form.
+fn name(side: Side) -> &'static str {
+    match side {
+        Side::First => "first",
+        Side::Second => "second",
     }
 }
 
@@ -57,8 +57,8 @@ fn run(rt: &LibcRuntime) -> Result<bool, AnyError> {
     match two_forms(&one, &two, k, j) {
         Ok(_) => Err("comparing two forms is not implemented yet".into()),
         Err(refusal) => {
-            let side = side(refusal, one.first().copied().unwrap_or(0));
-            println!(rt, "{side} {refusal}")?;
+            let form = name(side_of(&one, k, refusal));
+            println!(rt, "{form} {refusal}")?;
             Ok(!command.exit_code)
         }
     }

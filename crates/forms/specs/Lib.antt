@@ -3,3 +3,4 @@ pub mod Layout
 pub mod Fits
 pub mod View
 pub mod Asked
+pub mod Sides

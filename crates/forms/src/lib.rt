@@ -5,6 +5,7 @@
 // row, once it is known to be a form.
 
 mod asked;
+mod blame;
 mod checking;
 mod layout;
 mod reading;
@@ -15,6 +16,8 @@ mod way;
 pub use asked::kinds_of;
 pub use asked::one_form;
 pub use asked::two_forms;
+pub use blame::Side;
+pub use blame::side_of;
 pub use checking::is_form;
 pub use room::Room;
 pub use view::FormView;
