@@ -4,7 +4,7 @@ use mathlib.Core.List.{List, []}
 use Prim.Native.Nat.{ℕ, zero, suc, _+_, _<_}
 use native.Mathlib.Omega.{arith}
 use lib.ListN.{length, getD}
-use Rattle.std.proofs.shelf.Counted.{length-map-counting, getD-map-counting, fill-by-all}
+use Rattle.std.proofs.shelf.Counted.{length-map-counting, getD-map-counting}
 use Rattle.forms.specs.declared.room.Room.{Room}
 use Rattle.forms.specs.declared.way.Place.{Place}
 use Rattle.forms.specs.declared.way.Way.the-variants.{Record}
@@ -18,11 +18,6 @@ length-listed f n = length-map-counting f 0 n
 pub getD-listed : {X : Type 0} → (f : ℕ → X) (n i : ℕ) (d : X) → i < n → getD (listed f n) i d ≡ f i
 unfolding listed
 getD-listed f n i d h = getD-map-counting f 0 n i i d h (omega arith)
-
-pub listed-is : {X : Type 0} → (f : ℕ → X) (xs : List X) (n : ℕ) (d : X) → length xs ≡ n →
-    ((i : ℕ) → i < n → getD xs i d ≡ f i) → xs ≡ listed f n
-unfolding listed
-listed-is f xs n d e h = fill-by-all f xs n d e h
 
 pub kinds-of-form : (room : Room) (row : List ℕ) → length (form-in room row) ≡ kinds-count row
 unfolding form-in

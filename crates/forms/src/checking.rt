@@ -26,7 +26,7 @@ pub fn is_form(row: &[u64], room: Room) -> bool
 }
 
 // The place to tell of a row that is no form.
-pub fn fault_of(row: &[u64], room: Room) -> u64
+pub(crate) fn fault_of(row: &[u64], room: Room) -> u64
     ensures is { λ r. ⌜ r ≡ fault room (now (row .entry)) ⌝ }
     ensures first { λ r. ⌜ (form-fits room (now (row .entry)) ≡ false → First-fault room (now (row .entry)) r) ⌝ }
 {

@@ -18,7 +18,7 @@ const PLACES: usize = 4;
 const PLACE: usize = 3;
 
 // How many numbers a form's row has at least.
-pub fn row_length(room: Room) -> usize
+pub(crate) fn row_length(room: Room) -> usize
     ensures { λ r. ⌜ r ≡ row-length room ⌝ }
 {
     1 + room.kinds() * block(room)
@@ -40,7 +40,7 @@ fn kind_start(room: Room, kind: usize) -> usize
 }
 
 // Where a way of a kind begins.
-pub fn way_start(room: Room, kind: usize, way: usize) -> usize
+pub(crate) fn way_start(room: Room, kind: usize, way: usize) -> usize
     requires { ⌜ kind < room-kinds room ⌝ ∗ ⌜ way < room-ways room ⌝ }
     ensures is { λ r. ⌜ r ≡ way-start room kind way ⌝ }
     ensures within { λ r. ⌜ r + 16 ≤ row-length room ⌝ }
@@ -49,7 +49,7 @@ pub fn way_start(room: Room, kind: usize, way: usize) -> usize
 }
 
 // How many kinds a row says that it has.
-pub fn kinds_count(row: &[u64]) -> u64
+pub(crate) fn kinds_count(row: &[u64]) -> u64
     requires { ⌜ 0 < length (now row) ⌝ }
     ensures { λ r. ⌜ r ≡ kinds-count (now (row .entry)) ⌝ }
 {
@@ -57,7 +57,7 @@ pub fn kinds_count(row: &[u64]) -> u64
 }
 
 // How many ways a kind says that it has.
-pub fn ways_count(row: &[u64], room: Room, kind: usize) -> u64
+pub(crate) fn ways_count(row: &[u64], room: Room, kind: usize) -> u64
     requires { ⌜ row-length room ≤ length (now row) ⌝ ∗ ⌜ kind < room-kinds room ⌝ }
     ensures { λ r. ⌜ r ≡ ways-count room (now (row .entry)) kind ⌝ }
 {
@@ -65,7 +65,7 @@ pub fn ways_count(row: &[u64], room: Room, kind: usize) -> u64
 }
 
 // What the way that begins at `way` is: 0 a number, 1 a list, 2 a record.
-pub fn tag_at(row: &[u64], way: usize) -> u64
+pub(crate) fn tag_at(row: &[u64], way: usize) -> u64
     requires { ⌜ way + 16 ≤ length (now row) ⌝ }
     ensures { λ r. ⌜ r ≡ getD (now (row .entry)) way 0 ⌝ }
 {
@@ -73,7 +73,7 @@ pub fn tag_at(row: &[u64], way: usize) -> u64
 }
 
 // The way that begins at `way`.
-pub fn way_at(row: &[u64], way: usize) -> Way
+pub(crate) fn way_at(row: &[u64], way: usize) -> Way
     requires { ⌜ way + 16 ≤ length (now row) ⌝ }
     ensures { λ r. ⌜ r ≡ shape (way-from (now (row .entry)) way) ⌝ }
 {
@@ -102,7 +102,7 @@ fn place_start(way: usize, index: usize) -> usize
 }
 
 // A place of the record that begins at `way`.
-pub fn place_at(row: &[u64], way: usize, index: usize) -> Place
+pub(crate) fn place_at(row: &[u64], way: usize, index: usize) -> Place
     requires { ⌜ way + 16 ≤ length (now row) ⌝ ∗ ⌜ index < 4 ⌝ }
     ensures { λ r. ⌜ r ≡ place-in (now (row .entry)) way index ⌝ }
 {
@@ -115,7 +115,7 @@ pub fn place_at(row: &[u64], way: usize, index: usize) -> Place
 }
 
 // Whether a place must be filled: 0 or 1.
-pub fn mark_at(row: &[u64], way: usize, index: usize) -> u64
+pub(crate) fn mark_at(row: &[u64], way: usize, index: usize) -> u64
     requires { ⌜ way + 16 ≤ length (now row) ⌝ ∗ ⌜ index < 4 ⌝ }
     ensures { λ r. ⌜ r ≡ mark-in (now (row .entry)) way index ⌝ }
 {

@@ -1,6 +1,5 @@
 // A form in words: a line for each kind, and a line for each of its ways.
 ghost use lib.ListN.{length};
-ghost use mathlib.Core.Path.{_≡_};
 ghost use Prim.Native.Nat.{_<_};
 ghost use Rattle.forms.specs.Form.{ways-at, way-at, places-of};
 ghost use Rattle.forms.specs.View.{form-of};
@@ -8,7 +7,7 @@ use forms::FormView;
 use forms::Way;
 use std::io;
 
-pub fn print_form(rt: &LibcRuntime, form: &FormView) -> io::Result<()> {
+pub(crate) fn print_form(rt: &LibcRuntime, form: &FormView) -> io::Result<()> {
     for kind in 0..form.kinds() {
         let ways = form.ways(kind);
         if ways == 0 {

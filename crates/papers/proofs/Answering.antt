@@ -1,9 +1,9 @@
 -- From what a reading comes to, to what the entries answer, and the laws of rows. Assumes nothing.
 use mathlib.Core.Path.{_≡_, refl, sym, ap, subst, _∙_}
-use mathlib.Core.Bool.{Bool, true, false}
+use mathlib.Core.Bool.{true}
 use mathlib.Core.List.{List, [], _∷_, _++_, append-nil}
-use mathlib.Core.Logic.{_⊎_, inl, inr}
-use Prim.Native.Nat.{ℕ, zero, suc, _+_, _-_, _≤_, _<_}
+use mathlib.Core.Logic.{inl, inr}
+use Prim.Native.Nat.{ℕ, suc, _+_, _-_, _<_}
 use native.Mathlib.Numerals.{add-one}
 use native.Mathlib.Omega.{arith}
 use lib.ListN.{length, take}
@@ -19,7 +19,7 @@ use Rattle.papers.specs.Paper.{Paper, well, deep}
 use Rattle.papers.specs.Row.{row-of, fits}
 use Rattle.papers.specs.Reading.{Outcome, done, fault, into, alone, read-paper, read-row, deepest}
 use Rattle.papers.specs.Refusals.{number-of, place-of}
-use Rattle.papers.specs.Telling.{Told, Stands, Fails, Front-told, number-for, Refuses, Turned-away, Row-told}
+use Rattle.papers.specs.Telling.{Told, Front-told, number-for, Refuses, Turned-away, Row-told}
 use Rattle.papers.specs.Laws.{Round-trip, Only-written, Row-injective, Prefix-free}
 use Rattle.papers.proofs.Outcomes.{into-done, into-fault}
 use Rattle.papers.proofs.Encoding.{Comes, paper-comes}

@@ -8,7 +8,7 @@ use lib.Dec.{leb, ltb}
 use lib.ListN.{take}
 use Rattle.papers.specs.declared.reading.Why.{Why}
 use Rattle.papers.specs.declared.reading.Why.the-variants.{NoPaper, Deeper}
-use Rattle.papers.specs.Paper.{Paper, num, items, fields, Papers, item, Fields, field}
+use Rattle.papers.specs.Paper.{Paper, num, items, fields, item, field}
 use Rattle.papers.specs.Row.{limit}
 use Rattle.papers.specs.Reading.{Outcome, done, fault, then, into, number-from, read-items, read-fields, read-list, read-record, read-paper}
 

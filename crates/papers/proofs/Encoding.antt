@@ -1,17 +1,16 @@
 -- A written paper that is read again gives itself, and what is read is a written paper. Assumes nothing.
-use mathlib.Core.Path.{_≡_, refl, sym, ap, subst, _∙_}
-use mathlib.Core.Bool.{Bool, true, false, _&&_}
-use mathlib.Core.List.{List, [], _∷_, _++_, append-assoc}
+use mathlib.Core.Path.{_≡_, refl, ap, _∙_}
+use mathlib.Core.Bool.{Bool, true, _&&_}
+use mathlib.Core.List.{List, _∷_, _++_, append-assoc}
 use mathlib.Core.Logic.{_⊎_, inl, inr}
 use Prim.Native.Nat.{ℕ, zero, suc, max, _≤_, _<_}
 use native.Mathlib.Omega.{arith}
 use lib.Dec.{leb, ltb}
-use Rattle.std.proofs.shelf.Tests.{leb-true, ltb-true, le-leb, lt-ltb, and-parts, and-from}
-use Rattle.papers.specs.declared.reading.Why.{Why}
-use Rattle.papers.specs.declared.reading.Why.the-variants.{NoPaper, Deeper}
+use Rattle.std.proofs.shelf.Tests.{leb-true, ltb-true, le-leb, and-parts}
+use Rattle.papers.specs.declared.reading.Why.the-variants.{Deeper}
 use Rattle.papers.specs.Paper.{Paper, num, items, fields, Papers, no-items, item, Fields, no-fields, field, count, size, after-all, well, all-well, fields-well, deep, all-deep, fields-deep}
 use Rattle.papers.specs.Row.{row-of, rows-of, field-rows, limit, fits, all-fit, fields-fit}
-use Rattle.papers.specs.Reading.{Outcome, done, fault, then, into, number-from, read-items, read-fields, read-list, read-record, read-paper}
+use Rattle.papers.specs.Reading.{Outcome, done, fault, then, into, read-items, read-fields, read-list, read-record, read-paper}
 use Rattle.papers.proofs.Outcomes.{number-reads}
 
 -- a reading at most n deep comes to `a` and the rest, if that is not deeper; else it is too deep

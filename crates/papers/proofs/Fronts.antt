@@ -1,7 +1,7 @@
 -- No written paper is the front of another. Assumes nothing.
-use mathlib.Core.Path.{_≡_, refl, sym, ap, subst, _∙_}
-use mathlib.Core.List.{List, [], _∷_, _++_, append-assoc}
-use Prim.Native.Nat.{ℕ, zero, suc}
+use mathlib.Core.Path.{_≡_, refl, sym, ap, _∙_}
+use mathlib.Core.List.{List, _∷_, _++_, append-assoc}
+use Prim.Native.Nat.{ℕ}
 use native.Mathlib.Omega.{arith}
 use Rattle.papers.specs.Paper.{Paper, num, items, fields, Papers, no-items, item, Fields, no-fields, field, count, size}
 use Rattle.papers.specs.Row.{row-of, rows-of, field-rows}

@@ -1,15 +1,13 @@
 -- Laws of outcomes, and of reading one number. Assumes nothing.
-use mathlib.Core.Path.{_≡_, refl, sym, ap, subst, _∙_}
+use mathlib.Core.Path.{_≡_, refl, ap, subst}
 use mathlib.Core.Bool.{Bool, true, false, _&&_, cond}
-use mathlib.Core.List.{List, [], _∷_, _++_, append-assoc}
-use mathlib.Core.Logic.{_⊎_, inl, inr}
-use Prim.Native.Nat.{ℕ, suc, _≤_, _<_}
+use mathlib.Core.List.{List, [], _∷_}
+use Prim.Native.Nat.{ℕ, _≤_, _<_}
 use native.Mathlib.Omega.{arith}
 use lib.Dec.{leb, ltb}
-use lib.ListN.{length, take}
-use Rattle.std.proofs.shelf.Tests.{le-leb, lt-ltb, leb-true, ltb-true, and-from, and-parts, cases-bool}
+use Rattle.std.proofs.shelf.Tests.{le-leb, lt-ltb, leb-true, ltb-true, and-from, and-parts}
 use Rattle.papers.specs.declared.reading.Why.{Why}
-use Rattle.papers.specs.declared.reading.Why.the-variants.{NoPaper, Deeper}
+use Rattle.papers.specs.declared.reading.Why.the-variants.{NoPaper}
 use Rattle.papers.specs.Row.{limit}
 use Rattle.papers.specs.Reading.{Outcome, done, fault, then, into, number-from}
 

@@ -1,15 +1,14 @@
 -- What is read is a written paper: well made, fitting, and not too deep. Assumes nothing.
 use mathlib.Core.Path.{_≡_, refl, sym, ap, subst, _∙_}
-use mathlib.Core.Bool.{Bool, true, false, _&&_}
+use mathlib.Core.Bool.{true, _&&_}
 use mathlib.Core.List.{List, [], _∷_, _++_, append-assoc}
-use Prim.Native.Nat.{ℕ, zero, suc, max, _≤_, _<_}
+use Prim.Native.Nat.{ℕ, zero, suc, _≤_, _<_}
 use native.Mathlib.Omega.{arith}
-use lib.Dec.{leb, ltb}
+use lib.Dec.{ltb}
 use Rattle.std.proofs.shelf.Tests.{le-leb, lt-ltb, and-from}
-use Rattle.papers.specs.declared.reading.Why.{Why}
 use Rattle.papers.specs.Paper.{Paper, num, items, fields, Papers, no-items, item, Fields, no-fields, field, count, size, after-all, well, all-well, fields-well, deep, all-deep, fields-deep}
 use Rattle.papers.specs.Row.{row-of, rows-of, field-rows, limit, fits, all-fit, fields-fit}
-use Rattle.papers.specs.Reading.{Outcome, done, fault, then, into, number-from, read-items, read-fields, read-list, read-record, read-paper}
+use Rattle.papers.specs.Reading.{Outcome, done, then, into, number-from, read-items, read-fields, read-list, read-record, read-paper}
 use Rattle.papers.specs.Telling.{Stands}
 use Rattle.papers.proofs.Outcomes.{then-done, into-done, number-read}
 use Rattle.papers.proofs.Encoding.{from, after-from}

@@ -1,16 +1,16 @@
 -- The readers step by step: what the next numbers of a row make of a reading. Assumes nothing.
 use mathlib.Core.Path.{_≡_, refl, sym, ap, subst, _∙_}
-use mathlib.Core.Bool.{Bool, true, false, _&&_, cond}
-use mathlib.Core.List.{List, [], _∷_, _++_}
+use mathlib.Core.Bool.{_&&_}
+use mathlib.Core.List.{List, [], _∷_}
 use mathlib.Core.Logic.{_⊎_, inl, inr}
-use Prim.Native.Nat.{ℕ, zero, suc, max, _+_, _-_, _≤_, _<_}
+use Prim.Native.Nat.{ℕ, zero, suc, max, _-_, _≤_, _<_}
 use native.Mathlib.Omega.{arith}
 use lib.Dec.{leb, ltb}
 use lib.ListN.{length, getD, take, drop}
 use Rattle.std.proofs.shelf.Lists.{take-rest, length-append}
 use Rattle.std.proofs.shelf.Tests.{lt-leb, le-ltb, and-left, and-right, cond-false}
 use Rattle.std.specs.declared.result.Result.{Result}
-use Rattle.std.specs.declared.result.Result.the-variants.{Ok, Err}
+use Rattle.std.specs.declared.result.Result.the-variants.{Err}
 use Rattle.std.specs.Results.{ErrBy}
 use Rattle.std.proofs.shelf.Results.{err-from-errBy}
 use Rattle.papers.specs.declared.reading.Fault.{Fault}
@@ -22,7 +22,7 @@ use Rattle.papers.specs.declared.reading.Why.{Why}
 use Rattle.papers.specs.declared.reading.Why.the-variants.{NoPaper, Deeper}
 use Rattle.papers.specs.Row.{limit}
 use Rattle.papers.specs.Reading.{Outcome, done, fault, then, into, number-from, read-items, read-fields, read-list, read-record, read-paper}
-use Rattle.papers.specs.Paper.{Paper, num, items, fields, Papers, item, Fields, field, deep, all-deep, fields-deep}
+use Rattle.papers.specs.Paper.{num, items, fields, Papers, item, Fields, field, deep, all-deep, fields-deep}
 use Rattle.papers.proofs.Outcomes.{into-done, into-fault, number-reads, number-read}
 use Rattle.papers.proofs.Standing.{paper-read}
 use Rattle.papers.proofs.Causal.{paper-causal}

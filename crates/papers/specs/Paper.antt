@@ -1,5 +1,5 @@
 -- Papers: what they are, which are well made, and how deep they are. Assumes nothing: these are definitions.
-use mathlib.Core.Bool.{Bool, true, false, _&&_}
+use mathlib.Core.Bool.{Bool, true, _&&_}
 use Prim.Native.Nat.{ℕ, suc, max}
 use lib.Dec.{ltb}
 

@@ -1,5 +1,5 @@
 -- A paper written as a row of numbers: `0 n`, `1 count papers..`, `2 count (name paper)..`. Assumes nothing: these are definitions.
-use mathlib.Core.Bool.{Bool, true, false, _&&_}
+use mathlib.Core.Bool.{Bool, true, _&&_}
 use mathlib.Core.List.{List, [], _∷_, _++_}
 use Prim.Native.Nat.{ℕ}
 use lib.Dec.{ltb}

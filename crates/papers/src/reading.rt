@@ -86,7 +86,7 @@ fn number_from(row: &[u64], low: u64) -> Result<Part<'_>, Fault>
 }
 
 // A paper that is at most `levels` deep: its depth and the rest.
-pub fn read_paper(row: &[u64], levels: u64) -> Result<Part<'_>, Fault>
+pub(crate) fn read_paper(row: &[u64], levels: u64) -> Result<Part<'_>, Fault>
     ensures { λ r. ⌜ Told (into deep (read-paper levels (now (row .entry)))) r ⌝ }
 {
     let left = row.len();

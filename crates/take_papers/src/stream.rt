@@ -48,7 +48,7 @@ fn next_count<R: Read>(heap: Global, input: &mut R, number: u64) -> Result<Optio
 }
 
 // The next paper's numbers, or none where the stream ends.
-pub fn next_paper<R: Read>(
+pub(crate) fn next_paper<R: Read>(
     heap: Global,
     input: &mut R,
     number: u64,

@@ -1,12 +1,10 @@
 use mathlib.Core.Path.{refl, sym, ap, _∙_}
-use Prim.Native.Nat.{suc, _+_, _-_, _<_}
-use native.Mathlib.Numerals.{add-one}
+use Prim.Native.Nat.{_+_, _-_}
 use native.Mathlib.Omega.{arith}
 use borrow.Author.Needs.{needs}
-use lib.ListN.{length, getD}
-use Rattle.papers.specs.Reading.{done, into}
+use Rattle.papers.specs.Reading.{done}
 use Rattle.papers.specs.Telling.{start-number}
-use Rattle.papers.proofs.Steps.{known-start, hands-on, list-begins, list-none, list-goes-on, list-fails, list-ends, record-begins, record-none, record-goes-on, name-fails, field-fails, record-ends, number-shortens, name-below, paper-ends, paper-unknown, paper-too-deep, flat, number-inside, list-inside, record-inside, list-flat, record-flat}
+use Rattle.papers.proofs.Steps.{known-start, hands-on, list-begins, list-none, list-goes-on, list-fails, list-ends, record-begins, record-none, record-goes-on, name-fails, field-fails, record-ends, number-shortens, name-below, paper-ends, paper-unknown, paper-too-deep, number-inside, list-inside, record-inside, list-flat, record-flat}
 use Rattle.papers.proofs.reading.+read_list+read_paper+read_record.Needs as need
 
 pub read-list-returns-in-Break-count : need.read-list-returns-in-Break-count
