@@ -1,4 +1,4 @@
-use mathlib.Core.Path.{_≡_, sym, ap, subst, _∙_}
+use mathlib.Core.Path.{_≡_, sym, subst, _∙_}
 use Prim.Native.Nat.{_^_, _<_}
 use denote.Ref.{now}
 use lib.ListN.{length}
@@ -28,7 +28,6 @@ unfolding place-in
 returns c =
     let v = c .args .self .now in
     let p = view-place v (c .args .kind) (c .args .way) (c .args .index) (c .pre .kind-there) (c .pre .way-there) (c .pre .place-there) in
-    let read : c .place-at .result ≡ place-in (now (v .row)) (way-start (v .room) (c .args .kind) (c .args .way)) (c .args .index) =
-    c .place-at .ensures ∙ ap (λ a. place-in (now (v .row)) a (c .args .index)) (c .way-start .ensures .is) in
+    let read : c .place-at .result ≡ place-in (now (v .row)) (way-start (v .room) (c .args .kind) (c .args .way)) (c .args .index) = cc (c .place-at .ensures, c .way-start .ensures .is) in
     let Limits : Place → Type 0 = λ x. (x .name < 2 ^ 32) × (x .kind < length (form-of v)) in
     record { is = read ∙ sym (p .is); limits = subst Limits (sym read) (p .fits .name, p .fits .kind) }

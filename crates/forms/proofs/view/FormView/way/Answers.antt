@@ -4,7 +4,6 @@ use lib.ListN.{length}
 use native.Mathlib.Omega.{arith}
 use Rattle.forms.specs.Form.{shape, shape-places, way-at}
 use Rattle.forms.specs.Fits.{Keeps-to}
-use Rattle.forms.specs.Layout.{way-from}
 use Rattle.forms.specs.View.{form-of}
 use Rattle.forms.proofs.Parts.{places-of-shape}
 use Rattle.forms.proofs.Views.{view-kind, view-way}
@@ -25,8 +24,7 @@ returns c =
     let v = c .args .self .now in
     let f = form-of v in
     let w = view-way v (c .args .kind) (c .args .way) (c .pre .kind-there) (c .pre .way-there) in
-    let is : c .way-at .result ≡ shape (way-at f (c .args .kind) (c .args .way)) =
-    c .way-at .ensures ∙ (ap (λ a. shape (way-from (now (v .row)) a)) (c .way-start .ensures .is) ∙ ap shape (sym (w .is))) in
+    let is : c .way-at .result ≡ shape (way-at f (c .args .kind) (c .args .way)) = cc (c .way-at .ensures, c .way-start .ensures .is, w .is) in
     record {
       is = is;
       places = ap shape-places is ∙ places-of-shape (way-at f (c .args .kind) (c .args .way));
