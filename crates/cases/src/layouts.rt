@@ -3,7 +3,7 @@ use forms::FormView;
 use forms::Room;
 use forms::Side;
 use forms::Way;
-use forms::is_form;
+use forms::kinds_of;
 use forms::one_form;
 use forms::side_of;
 use forms::two_forms;
@@ -84,10 +84,11 @@ fn refusal_of_two(one: &[u64], two: &[u64], k: u64, j: u64) -> (u64, u64) {
 #[test]
 fn reads_a_form_at_every_bound() -> Result<(), Fail> {
     let row = row_with(&FULL);
-    if !is_form(&row, Room::Plain) {
+    let Some(kinds) = kinds_of(&row, Room::Plain) else {
         return Err(Fail::new("no form"));
-    }
+    };
     let form = FormView::new(&row, Room::Plain);
+    check_eq(kinds, 4)?;
     check(form.kinds() == 4)?;
     check(form.ways(0) == 3)?;
     let Way::Number { from, to } = form.way(0, 0) else {

@@ -19,7 +19,7 @@ const PLACES: usize = 4;
 const RECORD: u64 = 2;
 
 // Whether the row is a form.
-pub fn is_form(row: &[u64], room: Room) -> bool
+pub(crate) fn is_form(row: &[u64], room: Room) -> bool
     ensures { λ r. ⌜ r ≡ form-fits room (now (row .entry)) ⌝ }
 {
     count_fits(row, room) && first_misfit(row, room) as u64 == layout::kinds_count(row)

@@ -18,7 +18,6 @@ pub use asked::one_form;
 pub use asked::two_forms;
 pub use blame::Side;
 pub use blame::side_of;
-pub use checking::is_form;
 pub use room::Room;
 pub use view::FormView;
 pub use way::Place;

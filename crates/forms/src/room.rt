@@ -13,7 +13,7 @@ pub enum Room {
 }
 
 impl Room {
-    pub fn kinds(self) -> usize
+    pub(crate) fn kinds(self) -> usize
         ensures { λ r. ⌜ r ≡ room-kinds self ⌝ }
     {
         match self {
@@ -23,7 +23,7 @@ impl Room {
         }
     }
 
-    pub fn ways(self) -> usize
+    pub(crate) fn ways(self) -> usize
         ensures { λ r. ⌜ r ≡ room-ways self ⌝ }
     {
         match self {

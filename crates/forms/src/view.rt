@@ -15,7 +15,7 @@ pub struct FormView<'a> {
 }
 
 impl<'a> FormView<'a> {
-    // The view of a row that is a form, as `is_form`, `one_form` or `two_forms` has found.
+    // The view of a row that is a form, as `kinds_of`, `one_form` or `two_forms` has found.
     pub fn new(row: &'a [u64], room: Room) -> FormView<'a>
         requires { ⌜ form-fits room (now row) ≡ true ⌝ }
         ensures row { λ r. ⌜ r .row ≡ row .entry ⌝ }

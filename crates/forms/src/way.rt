@@ -32,7 +32,7 @@ pub enum Way {
 
 impl Way {
     // How many places: none, unless it is a record.
-    pub fn places(self) -> usize
+    pub(crate) fn places(self) -> usize
         ensures { λ r. ⌜ r ≡ shape-places self ⌝ }
     {
         match self {

@@ -5,13 +5,12 @@ use Prim.Native.Nat.{ℕ, _-_, _/_, _≤_, _<_}
 use native.Mathlib.Omega.{arith}
 use lib.ListN.{length, getD, take, drop}
 use Rattle.std.proofs.shelf.Lists.{take-rest}
-use Rattle.std.specs.Of.String.{string-bytes}
 use Rattle.std.specs.Vec.{Every}
 use Rattle.std.specs.declared.alloc.Global.{Global}
 use Rattle.std.specs.declared.string.String.{String}
 use Rattle.std.proofs.Told.{every-snoc}
 use Rattle.programs.specs.Bytes.{four, numbers-in}
-use Rattle.programs.specs.Words.{Option-like, No-option}
+use Rattle.programs.specs.Words.{No-option}
 
 first-number : (xs : List ℕ) → 4 ≤ length xs → numbers-in xs ≡ four (getD xs 0 0) (getD xs 1 0) (getD xs 2 0) (getD xs 3 0) ∷ numbers-in (take (length xs - 4) (drop 4 xs))
 unfolding numbers-in
@@ -47,6 +46,6 @@ one-more all later whole xs n h l e p =
 pub no-more : (all whole xs : List ℕ) → all ++ numbers-in xs ≡ whole → length xs < 4 → all ≡ whole
 no-more all whole xs h l = sym (append-nil all) ∙ ap (λ v. all ++ v) (sym (no-number xs l)) ∙ h
 
--- one word more that is no option, as its text says
-pub word-more : (all later : List (String Global)) (word : String Global) (text : List ℕ) → later ≡ all ++ word ∷ [] → Every No-option all → text ≡ string-bytes word → (Option-like text → ⊥) → Every No-option later
-word-more all later word text p h e q = subst (Every No-option) (sym p) (every-snoc No-option all word h (subst (λ l. Option-like l → ⊥) e q))
+-- one word more that is no option
+pub word-more : (all later : List (String Global)) (word : String Global) → later ≡ all ++ word ∷ [] → Every No-option all → No-option word → Every No-option later
+word-more all later word p h q = subst (Every No-option) (sym p) (every-snoc No-option all word h q)

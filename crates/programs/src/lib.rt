@@ -10,9 +10,7 @@ mod line;
 pub use ending::finish;
 pub use kind::kind_of;
 pub use line::Command;
-pub use line::Word;
 pub use line::parse;
-pub use line::word_of;
 // Files and streams of numbers.
 pub use bytes::numbers;
 pub use file::row_of;

@@ -2,12 +2,13 @@
 ghost use Rattle.std.specs.Of.Vec.{vec-items};
 ghost use Rattle.std.specs.Vec.{Every, made};
 ghost use Rattle.programs.specs.Words.{Is-word, No-option};
+use std::alloc::AllocError;
 use std::alloc::Global;
 use std::env;
 use std::error::AnyError;
 
 #[derive(Clone, Copy)]
-pub enum Word {
+enum Word {
     // `--help`
     Help,
     // `--exit-code`
@@ -27,7 +28,7 @@ pub struct Command {
 }
 
 // Which word it is.
-pub fn word_of(word: &str) -> Word
+fn word_of(word: &str) -> Word
     ensures { λ r. ⌜ Is-word r (now (word .entry)) ⌝ }
 {
     if word == "--help" {
@@ -39,6 +40,16 @@ pub fn word_of(word: &str) -> Word
     } else {
         Word::Plain
     }
+}
+
+// Keeps a word that is no option behind others that are none.
+fn keep(words: &mut Vec<String>, word: String) -> Result<(), AllocError>
+    requires others { ⌜ Every No-option (vec-items (now words)) ⌝ }
+    requires this { ⌜ No-option word ⌝ }
+    ensures { λ r. ⌜ made r (λ _. Every No-option (vec-items (now (words .exit)))) ⌝ }
+{
+    words.push(word)?;
+    Ok(())
 }
 
 // The options and the words behind the program's name; none of the words is an option.
@@ -55,7 +66,7 @@ pub fn parse(heap: Global, args: env::Args) -> Result<Command, AnyError>
             Word::Help => command.help = true,
             Word::ExitCode => command.exit_code = true,
             Word::Unknown => return Err(format!(heap, "there is no option {arg}")?.into()),
-            Word::Plain => command.words.push(arg)?,
+            Word::Plain => keep(&mut command.words, arg)?,
         }
     }
     Ok(command)

@@ -11,7 +11,7 @@ use Rattle.programs.proofs.bytes.numbers.Needs as need
 
 pub loop-rest-again : need.loop-rest-again
 loop-rest-again c =
-    one-more (vec-items (c .loop-rest .all)) _ (numbers-in (c .args .bytes .now)) (c .loop-rest .rest .now) (c .number .result) (c .loop-rest .inv) (search needs) (c .number .ensures)
+    one-more (vec-items (c .loop-rest .all)) _ (numbers-in (c .args .bytes .now)) (c .loop-rest .rest .now) (c .number .result) (c .loop-rest .inv) (search needs) (omega (arith, c .number .ensures))
     (pushed (c .number .result ∷ []) refl (c .in-Continue-push .was tt) (c .push .ensures .items))
 
 pub returns : need.returns
