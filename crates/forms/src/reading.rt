@@ -1,6 +1,8 @@
 // Reading the parts of a form.
 //
-// As with the index of a slice, the caller sees to it that the part is there.
+// `ways`, `way` and `place` have a `requires`, that the part is there, as the index of a slice has: they are the inner steps of
+// loops over a form, where the bound of the loop shows it, and a test at each of them would only be repeated. What comes from
+// outside, a row or the number of a kind, is refused by `one_form` and `two_forms`, which have none.
 ghost use denote.Ref.{now};
 ghost use lib.ListN.{length};
 ghost use mathlib.Core.Path.{_≡_};

@@ -15,7 +15,8 @@ pub struct FormView<'a> {
 }
 
 impl<'a> FormView<'a> {
-    // The view of a row that is a form, as `kinds_of`, `one_form` or `two_forms` has found.
+    // The view of a row that is a form. It has a `requires` since it makes the fact that the view carries: `kinds_of`,
+    // `one_form` and `two_forms` have none, and what they answer shows it.
     pub fn new(row: &'a [u64], room: Room) -> FormView<'a>
         requires { ⌜ form-fits room (now row) ≡ true ⌝ }
         ensures row { λ r. ⌜ r .row ≡ row .entry ⌝ }
