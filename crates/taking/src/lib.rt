@@ -1,0 +1,9 @@
+// Whether a form takes a paper, in one reading of the paper's row.
+
+mod laws;
+
+// What holds of taking, for all forms and papers.
+pub use laws::moved_takes;
+pub use laws::new_field;
+pub use laws::wider;
+pub use laws::within_order;
