@@ -1,2 +1,4 @@
 pub mod Takes
 pub mod Within
+pub mod Masks
+pub mod Seen

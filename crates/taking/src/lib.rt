@@ -1,6 +1,12 @@
 // Whether a form takes a paper, in one reading of the paper's row.
 
+mod fields;
 mod laws;
+mod mask;
+mod progress;
+mod reading;
+mod seen;
+mod shapes;
 
 // What holds of taking, for all forms and papers.
 pub use laws::moved_takes;
