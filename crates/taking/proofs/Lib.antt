@@ -1,0 +1,4 @@
+pub mod Finding
+pub mod Covering
+pub mod Changing
+pub mod Moving
