@@ -2,3 +2,9 @@ pub mod Finding
 pub mod Covering
 pub mod Changing
 pub mod Moving
+pub mod Masks
+pub mod Below
+pub mod Places
+pub mod Rooms
+pub mod Advancing
+pub mod Folding

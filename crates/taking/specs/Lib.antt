@@ -2,3 +2,4 @@ pub mod Takes
 pub mod Within
 pub mod Masks
 pub mod Seen
+pub mod Answers

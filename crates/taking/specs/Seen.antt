@@ -1,8 +1,8 @@
 -- What is kept of a paper while it is read, and what a form makes of it. Assumes nothing: these are definitions.
 use mathlib.Core.Bool.{Bool, true, false}
-use mathlib.Core.List.{List, []}
+use mathlib.Core.List.{List}
 use mathlib.Core.Path.{_≡_}
-use Prim.Native.Nat.{ℕ, suc}
+use Prim.Native.Nat.{ℕ, suc, _+_, _*_}
 use lib.ListN.{length, getD, drop}
 use Rattle.forms.specs.declared.way.Place.{Place}
 use Rattle.forms.specs.Form.{Form, ways-at}
@@ -18,9 +18,9 @@ kind-sees sees f k = some-below (sees f k) (length (ways-at f k))
 unfoldable pub kinds-seen : (Form → ℕ → ℕ → Bool) → Form → ℕ
 kinds-seen sees f = mask (kind-sees sees f) (length f)
 
--- How far way w of kind k has come.
-abbrev pub progress-at : List (List Progress) → ℕ → ℕ → Progress
-progress-at ps k w = getD (getD ps k []) w Dead
+-- How far way w of kind k has come: at its first place, if nothing is said of it.
+abbrev pub progress-at : List Progress → ℕ → ℕ → Progress
+progress-at ps k w = getD ps (9 * k + w) (At 0)
 
 -- A record way that has come so far takes a record that ends there.
 abbrev pub ends-well : Progress → List Place → Bool

@@ -10,7 +10,7 @@ ghost use Rattle.taking.specs.Masks.{test};
 ghost use Rattle.taking.specs.Seen.{progress-at, ends-well, Behind, Goes-on, Advances};
 ghost use Rattle.taking.specs.Takes.{find, record-takes};
 use crate::mask::holds;
-use crate::progress::KINDS;
+use crate::progress::ALL_WAYS;
 use crate::progress::Progress;
 use crate::progress::Records;
 use crate::progress::WAYS;
@@ -20,10 +20,10 @@ use forms::Way;
 impl Records {
     // Before the first field: every way is at its first place.
     pub(crate) fn new() -> Records
-        ensures { λ r. ⌜ ((k w : ℕ) → k < 16 → w < 9 → progress-at (r .ways) k w ≡ At 0) ⌝ }
+        ensures { λ r. ⌜ ((k w : ℕ) → progress-at (r .ways) k w ≡ At 0) ⌝ }
     {
         Records {
-            ways: [[Progress::At(0); WAYS]; KINDS],
+            ways: [Progress::At(0); ALL_WAYS],
         }
     }
 
@@ -33,7 +33,8 @@ impl Records {
     {
         for kind in 0..form.kinds() {
             for way in 0..form.ways(kind) {
-                self.ways[kind][way] = advanced(form, kind, way, self.ways[kind][way], name, kinds);
+                let slot = WAYS * kind + way;
+                self.ways[slot] = advanced(form, kind, way, self.ways[slot], name, kinds);
             }
         }
     }

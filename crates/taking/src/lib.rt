@@ -1,5 +1,6 @@
 // Whether a form takes a paper, in one reading of the paper's row.
 
+mod entry;
 mod fields;
 mod laws;
 mod mask;
@@ -8,6 +9,9 @@ mod reading;
 mod seen;
 mod shapes;
 
+// Whether a form takes the paper that a row is.
+pub use entry::Taking;
+pub use entry::take_as;
 // What holds of taking, for all forms and papers.
 pub use laws::moved_takes;
 pub use laws::new_field;

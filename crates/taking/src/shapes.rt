@@ -11,6 +11,7 @@ ghost use Rattle.taking.specs.Takes.{number-takes, list-takes, record-takes};
 use crate::fields::ends_well;
 use crate::mask::holds;
 use crate::progress::Records;
+use crate::progress::WAYS;
 use crate::seen::Seen;
 use forms::FormView;
 use forms::Way;
@@ -59,6 +60,6 @@ pub(crate) impl Seen for Records as SeenRecord {
     ghost sees = { λ s f k w. record-takes (ends-well (progress-at (s .ways) k w)) (way-at f k w) };
 
     fn seen_by(&self, form: FormView<'_>, kind: usize, way: usize) -> bool {
-        ends_well(form, kind, way, self.ways[kind][way])
+        ends_well(form, kind, way, self.ways[WAYS * kind + way])
     }
 }
