@@ -42,11 +42,11 @@ one-way-more f x m i j old new q l h a = record {
         (subst (Advances x m (places-of (way-at f i j)) (progress-at old i j)) (sym here)
         (subst (λ p. Advances x m (places-of (way-at f i j)) p q) old-here a))
     | inr o ↦ elim o [
-        | inl c ↦
-            subst (Advances x m (places-of (way-at f i w)) (progress-at old i w))
-            (sym (getD-set-other new (9 * i + j) (9 * i + w) q (At 0) (omega arith))) (h .done w c)
-        | inr c ↦ absurd (omega arith)
-      ]
+      | inl c ↦
+          subst (Advances x m (places-of (way-at f i w)) (progress-at old i w))
+          (sym (getD-set-other new (9 * i + j) (9 * i + w) q (At 0) (omega arith))) (h .done w c)
+      | inr c ↦ absurd (omega arith)
+    ]
   ];
   rest = λ n b. getD-set-other new (9 * i + j) n q (At 0) (b j (omega arith)) ∙ h .rest n (λ w c. b w (omega arith));
 }
@@ -67,11 +67,11 @@ one-kind-more f x m i old mid new few h a = record {
         subst (λ j. w < length (ways-at f j) → Moved-on f x m old new j w) (sym e)
         (λ c. subst (λ p. Advances x m (places-of (way-at f i w)) p (progress-at new i w)) (h .rest i w (omega arith) (omega (arith, few i (omega arith)))) (a .done w c)) b
     | inr o ↦ elim o [
-        | inl c ↦
-            subst (Advances x m (places-of (way-at f k w)) (progress-at old k w))
-            (sym (a .rest (9 * k + w) (λ v d e. omega (arith, few k (omega arith))))) (h .done k w c b)
-        | inr c ↦ absurd (omega arith)
-      ]
+      | inl c ↦
+          subst (Advances x m (places-of (way-at f k w)) (progress-at old k w))
+          (sym (a .rest (9 * k + w) (λ v d e. omega (arith, few k (omega arith))))) (h .done k w c b)
+      | inr c ↦ absurd (omega arith)
+    ]
   ];
   rest = λ k w l b. a .rest (9 * k + w) (λ v d e. omega (arith, few i (omega arith))) ∙ h .rest k w (omega arith) b;
 }

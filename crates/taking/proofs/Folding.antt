@@ -24,7 +24,7 @@ any-none : (p : Way → Bool) (f : Form) (k : ℕ) → length f ≤ k → any p 
 unfolding any
 any-none p f k h = ap (any p) (getD-past f k [] h)
 
-none-there : (d : Paper) (f : Form) (k : ℕ) → length f ≤ k → takes d f k ≡ false
+pub none-there : (d : Paper) (f : Form) (k : ℕ) → length f ≤ k → takes d f k ≡ false
 unfolding takes
 none-there (num n) f k h = any-none (number-takes n) f k h
 none-there (items ds) f k h = any-none (list-takes (count ds) (all-take ds f)) f k h

@@ -8,3 +8,4 @@ pub mod Places
 pub mod Rooms
 pub mod Advancing
 pub mod Folding
+pub mod Answering

@@ -11,7 +11,9 @@ mod shapes;
 
 // Whether a form takes the paper that a row is.
 pub use entry::Taking;
+pub use entry::take;
 pub use entry::take_as;
+pub use entry::take_in;
 // What holds of taking, for all forms and papers.
 pub use laws::moved_takes;
 pub use laws::new_field;

@@ -49,9 +49,12 @@ take-paper-returns-in-Break-number t c =
     let f = form-of (c .args .form) in
     let o = c .in-Continue-opening .ensures tt in
     let h = c .in-Break-number .ensures tt in
-    hands-on _ (c .from-residual-in-Break-number .result) (c .in-Break-number .field-0 .0) (c .from-residual-in-Break-number .ensures .1)
-    (h .0, number-inside (kinds-of f) (λ x. x) (c .args .levels) (c .in-Continue-opening .opening .below) (c .args .row .now) (c .in-Continue-opening .opening .rest .now) (c .in-Continue-opening .opening .start) (o .0) (o .1)
-    (λ n. kinds-seen (number-sees n) f) (number-kinds f) (c .in-Number .is) (fault (c .in-Break-number .field-0 .0 .why) (h .0)) (ap (into (λ n. kinds-seen (number-sees n) f)) (h .1)), h .2)
+    hands-on _ (c .from-residual-in-Break-number .result) (c .in-Break-number .field-0 .0) (c .from-residual-in-Break-number .ensures .1) (
+      h .0,
+      number-inside (kinds-of f) (λ x. x) (c .args .levels) (c .in-Continue-opening .opening .below) (c .args .row .now) (c .in-Continue-opening .opening .rest .now) (c .in-Continue-opening .opening .start) (o .0) (o .1)
+          (λ n. kinds-seen (number-sees n) f) (number-kinds f) (c .in-Number .is) (fault (c .in-Break-number .field-0 .0 .why) (h .0)) (ap (into (λ n. kinds-seen (number-sees n) f)) (h .1)),
+      h .2,
+    )
 
 pub take-paper-returns-in-Continue-number : need.take-paper-returns-in-Continue-number
 take-paper-returns-in-Continue-number t c =
