@@ -8,7 +8,6 @@ use forms::FormView;
 use forms::Room;
 use forms::one_form;
 use papers::RefusalDisplay;
-use papers::read;
 use programs::finish;
 use programs::kind_of;
 use programs::parse;
@@ -22,6 +21,8 @@ use std::io::Stdout;
 use std::io::Write;
 use stream::MOST;
 use stream::Papers;
+use taking::Taking;
+use taking::take_as;
 
 const HELP: &str = "\
 take_papers FORM [K]
@@ -55,11 +56,20 @@ fn answer(
     row: &[u64],
     out: &mut BufWriter<Stdout>,
 ) -> Result<bool, AnyError> {
-    let Err(refusal) = read(row) else {
-        return Err("taking a paper is not implemented yet".into());
-    };
-    writeln!(out, "{refusal}")?;
-    Ok(false)
+    match take_as(form, row, kind) {
+        Taking::Taken => {
+            out.write_all(b"taken\n")?;
+            Ok(true)
+        }
+        Taking::NotTaken => {
+            out.write_all(b"not taken\n")?;
+            Ok(false)
+        }
+        Taking::Refused(refusal) => {
+            writeln!(out, "{refusal}")?;
+            Ok(false)
+        }
+    }
 }
 
 // Answers every paper of the stream, and says whether the form took them all.
