@@ -129,11 +129,3 @@ pub hands-on : {X : Type 0} (o : Outcome X) (r : Result (Part X) Fault) (f : Fau
 hands-on o r f e h =
     let p = err-from-errBy r e in
     subst (Told o) (sym (p .1 ∙ ap Err (p .2))) h
-
--- what a part came to is handed on as it is
-as-it-is : {X : Type 0} (o : Outcome X) → into (λ x. x) o ≡ o
-as-it-is (done x rest) = refl
-as-it-is (fault w left) = refl
-
-pub told-as : {X : Type 0} (o p : Outcome X) (r : Result (Part X) Fault) → o ≡ into (λ x. x) p → Told p r → Told o r
-told-as o p r e h = subst (λ q. Told q r) (sym (e ∙ as-it-is p)) h

@@ -21,6 +21,7 @@ use std::io::Stdout;
 use std::io::Write;
 use stream::MOST;
 use stream::Papers;
+use taking::SortedForm;
 use taking::Taking;
 use taking::take_as;
 
@@ -51,7 +52,7 @@ Options:
 
 // Writes the answer to one paper, and says whether the form took it.
 fn answer(
-    form: FormView<'_>,
+    form: &SortedForm<'_>,
     kind: usize,
     row: &[u64],
     out: &mut BufWriter<Stdout>,
@@ -75,7 +76,7 @@ fn answer(
 // Answers every paper of the stream, and says whether the form took them all.
 fn answer_all(
     heap: Global,
-    form: FormView<'_>,
+    form: &SortedForm<'_>,
     kind: usize,
     papers: &mut Papers<Stdin>,
     out: &mut BufWriter<Stdout>,
@@ -113,10 +114,10 @@ fn run(rt: &LibcRuntime) -> Result<bool, AnyError> {
             return Ok(!command.exit_code);
         }
     };
-    let form = FormView::new(&form, Room::Plain);
+    let form = SortedForm::new(FormView::new(&form, Room::Plain));
     let mut papers = Papers::new(rt.stdin());
     let mut out = BufWriter::new(rt.stdout());
-    let answered = answer_all(heap, form, kind, &mut papers, &mut out);
+    let answered = answer_all(heap, &form, kind, &mut papers, &mut out);
     // What was answered is written even where the stream then failed.
     out.flush()?;
     Ok(answered? || !command.exit_code)

@@ -7,7 +7,7 @@ use Prim.Native.Nat.{ℕ, zero, suc, _+_, _<_}
 use native.Mathlib.Numerals.{add-one}
 use native.Mathlib.Omega.{arith}
 use lib.ListN.{length, getD}
-use Rattle.std.proofs.shelf.Tests.{cases-order, or-left, or-right, or-from}
+use Rattle.std.proofs.shelf.Tests.{cases-order, or-left, or-right, or-cases}
 use Rattle.forms.specs.Form.{Way}
 use Rattle.taking.specs.Masks.{some-below}
 use Rattle.taking.specs.Takes.{any}
@@ -16,9 +16,19 @@ pub below-none : (p : ℕ → Bool) → some-below p 0 ≡ false
 unfolding some-below
 below-none p = refl
 
-pub below-more : (p : ℕ → Bool) (n : ℕ) → some-below p n ≡ false → p n ≡ false → some-below p (n + 1) ≡ false
+pub below-suc : (p : ℕ → Bool) (n : ℕ) → some-below p (n + 1) ≡ (some-below p n || p n)
 unfolding some-below
-below-more p n h l = ap (some-below p) (add-one n) ∙ or-from (some-below p n) (p n) h l
+below-suc p n = ap (some-below p) (add-one n)
+
+-- it can be found
+pub below-some : (p : ℕ → Bool) (n : ℕ) → some-below p n ≡ true → (k : ℕ) × (k < n) × (p k ≡ true)
+unfolding some-below
+below-some p zero e = let z : _≡_ {A = ℕ} 0 1 = cc in absurd (omega arith)
+below-some p (suc n) e =
+    elim (or-cases (some-below p n) (p n) e) [
+      | inl h ↦ let k = below-some p n h in (k .0, omega (arith, k .1), k .2)
+      | inr h ↦ (n, omega arith, h)
+    ]
 
 pub below-found : (p : ℕ → Bool) (n k : ℕ) → k < n → p k ≡ true → some-below p n ≡ true
 unfolding some-below

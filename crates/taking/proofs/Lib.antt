@@ -6,6 +6,8 @@ pub mod Masks
 pub mod Below
 pub mod Places
 pub mod Rooms
+pub mod Groups
 pub mod Advancing
+pub mod Sights
 pub mod Folding
 pub mod Answering

@@ -1,16 +1,15 @@
 -- Laws of masks: what is in one, and when two are the same. Assumes nothing.
 use mathlib.Core.Path.{_≡_, refl, sym, ap, subst, _∙_}
-use mathlib.Core.Bool.{Bool, true, false, _&&_}
+use mathlib.Core.Bool.{Bool, true, false, _&&_, _||_}
 use mathlib.Core.Logic.{_⊎_, inl, inr}
 use Prim.Native.Nat.{ℕ, zero, suc, _+_, _*_, _-_, _/_, _%_, _^_, _≤_, _<_}
 use native.Mathlib.Nat.{mul-add-mod-self-right, mul-assoc}
-use native.Mathlib.Numerals.{add-one}
 use native.Mathlib.Omega.{arith}
-use lib.Bits.{bitAnd}
+use lib.Bits.{bitAnd, bitOr, or-block, or-zero-r}
 use lib.Dec.{eqb}
 use lib.Pow.{pow-mono}
-use Rattle.std.proofs.shelf.Bits.{pow-pos, pow-add, shr-high, field-of, div-below, mod-below, and-shr, and-mod}
-use Rattle.std.proofs.shelf.Tests.{cases-order, cases-lt}
+use Rattle.std.proofs.shelf.Bits.{pow-pos, pow-below, pow-add, shr-high, field-of, div-below, mod-below, and-shr, and-mod}
+use Rattle.std.proofs.shelf.Tests.{cases-order, cases-lt, eq-eqb, ne-eqb}
 use Rattle.taking.specs.Masks.{bit, mask, test}
 
 pub mask-lt : (p : ℕ → Bool) (n : ℕ) → mask p n < 2 ^ n
@@ -82,18 +81,43 @@ mask-all p (suc n) h =
     let top : bit (p n) * 2 ^ n ≡ 2 ^ n = ap (λ b. bit b * 2 ^ n) (h n (omega arith)) ∙ omega arith in
     omega arith
 
--- one number after another
-pub mask-none : (p : ℕ → Bool) → 0 ≡ mask p 0
+-- nothing is in it
+pub mask-none : (p : ℕ → Bool) (n : ℕ) → ((k : ℕ) → k < n → p k ≡ false) → 0 ≡ mask p n
 unfolding mask
-mask-none p = refl
+mask-none p zero h = refl
+mask-none p (suc n) h = mask-none p n (λ k l. h k (omega arith)) ∙ omega arith ∙ ap (λ b. bit b * 2 ^ n + mask p n) (sym (h n (omega arith)))
 
-pub mask-in : (p : ℕ → Bool) (n : ℕ) → p n ≡ true → 2 ^ n + mask p n ≡ mask p (n + 1)
+-- one more number in it
+pub mask-or : (p : ℕ → Bool) (n k : ℕ) → k < n → bitOr (mask p n) (2 ^ k) ≡ mask (λ j. p j || eqb k j) n
 unfolding mask
-mask-in p n h = omega arith ∙ ap (λ b. bit b * 2 ^ n + mask p n) (sym h) ∙ ap (mask p) (sym (add-one n))
+mask-or p zero k h = absurd (omega arith)
+mask-or p (suc n) k h =
+    elim (cases-order k n) [
+      | inl e ↦
+          let top : 2 ^ k ≡ 1 * 2 ^ n + 0 = ap (λ i. 2 ^ i) e ∙ omega arith in
+          let rest : mask p n ≡ mask (λ j. p j || eqb k j) n = mask-same p (λ j. p j || eqb k j) n (λ j l. out (p j) (eqb k j) (ne-eqb k j (λ q. omega arith))) in
+          ap (bitOr (bit (p n) * 2 ^ n + mask p n)) top ∙ or-block n (bit (p n)) 1 (mask p n) 0 (mask-lt p n) (pow-pos n)
+          ∙ ap (λ x. x * 2 ^ n + bitOr (mask p n) 0) (in-bit (p n) (eqb k n) (eq-eqb k n e)) ∙ ap (λ x. bit (p n || eqb k n) * 2 ^ n + x) (or-zero-r (mask p n) ∙ rest)
+      | inr o ↦ elim o [
+          | inl l ↦
+              let low : 2 ^ k ≡ 0 * 2 ^ n + 2 ^ k = omega arith in
+              ap (bitOr (bit (p n) * 2 ^ n + mask p n)) low ∙ or-block n (bit (p n)) 0 (mask p n) (2 ^ k) (mask-lt p n) (pow-below k n l)
+              ∙ ap (λ x. x * 2 ^ n + bitOr (mask p n) (2 ^ k)) (out-bit (p n) (eqb k n) (ne-eqb k n (λ q. omega arith))) ∙ ap (λ x. bit (p n || eqb k n) * 2 ^ n + x) (mask-or p n k l)
+          | inr l ↦ absurd (omega arith)
+        ]
+    ]
+  where
+    out : (x y : Bool) → y ≡ false → x ≡ (x || y)
+    out true y e = refl
+    out false y e = sym e
 
-pub mask-out : (p : ℕ → Bool) (n : ℕ) → p n ≡ false → mask p n ≡ mask p (n + 1)
-unfolding mask
-mask-out p n h = omega arith ∙ ap (λ b. bit b * 2 ^ n + mask p n) (sym h) ∙ ap (mask p) (sym (add-one n))
+    in-bit : (x y : Bool) → y ≡ true → bitOr (bit x) 1 ≡ bit (x || y)
+    in-bit true y e = refl
+    in-bit false y e = ap bit (sym e)
+
+    out-bit : (x y : Bool) → y ≡ false → bitOr (bit x) 0 ≡ bit (x || y)
+    out-bit true y e = refl
+    out-bit false y e = ap bit (sym e)
 
 -- what is in both of two masks
 pub test-and : (s t k : ℕ) → test (bitAnd s t) k ≡ (test s k && test t k)

@@ -1,5 +1,6 @@
 pub mod Takes
 pub mod Within
 pub mod Masks
+pub mod Groups
 pub mod Seen
 pub mod Answers

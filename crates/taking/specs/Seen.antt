@@ -1,26 +1,18 @@
--- What is kept of a paper while it is read, and what a form makes of it. Assumes nothing: these are definitions.
+-- What a record way makes of the fields that are read. Assumes nothing: these are definitions.
 use mathlib.Core.Bool.{Bool, true, false}
 use mathlib.Core.List.{List}
 use mathlib.Core.Path.{_≡_}
-use Prim.Native.Nat.{ℕ, suc, _+_, _*_}
-use lib.ListN.{length, getD, drop}
+use Prim.Native.Nat.{ℕ, suc}
+use lib.ListN.{getD, drop}
 use Rattle.forms.specs.declared.way.Place.{Place}
-use Rattle.forms.specs.Form.{Form, ways-at}
 use Rattle.taking.specs.declared.progress.Progress.{Progress}
 use Rattle.taking.specs.declared.progress.Progress.the-variants.{At, Dead}
-use Rattle.taking.specs.Masks.{mask, test, some-below}
+use Rattle.taking.specs.Masks.{test}
 use Rattle.taking.specs.Takes.{Found, at, nowhere, none-must, find}
 
--- Kind k takes what was seen, where `sees f k w` says whether way w of kind k of the form f does; and the kinds that do.
-abbrev pub kind-sees : (Form → ℕ → ℕ → Bool) → Form → ℕ → Bool
-kind-sees sees f k = some-below (sees f k) (length (ways-at f k))
-
-unfoldable pub kinds-seen : (Form → ℕ → ℕ → Bool) → Form → ℕ
-kinds-seen sees f = mask (kind-sees sees f) (length f)
-
--- How far way w of kind k has come: at its first place, if nothing is said of it.
-abbrev pub progress-at : List Progress → ℕ → ℕ → Progress
-progress-at ps k w = getD ps (9 * k + w) (At 0)
+-- How far way i has come: at its first place, if nothing is said of it.
+abbrev pub progress-at : List Progress → ℕ → Progress
+progress-at ps i = getD ps i (At 0)
 
 -- A record way that has come so far takes a record that ends there.
 abbrev pub ends-well : Progress → List Place → Bool

@@ -8,6 +8,7 @@ ghost use Rattle.taking.specs.Answers.{Answered, Take-told};
 ghost use Rattle.taking.specs.Masks.{kinds-of};
 use crate::mask::holds;
 use crate::reading::take_paper;
+use crate::sorted::SortedForm;
 use forms::FormView;
 use forms::Room;
 use forms::one_form;
@@ -37,20 +38,21 @@ pub fn take_in(form: &[u64], room: Room, row: &[u64], k: u64) -> Taking
     ensures { λ r. ⌜ Take-told room (now (form .entry)) (now (row .entry)) k r ⌝ }
 {
     match one_form(form, room, k) {
-        Ok(kind) => take_as(FormView::new(form, room), row, kind),
+        Ok(kind) => take_as(&SortedForm::new(FormView::new(form, room)), row, kind),
         Err(refusal) => Taking::Refused(refusal),
     }
 }
 
-// Whether a form that is known to be one takes the paper in a row as a kind. It takes nothing as a kind that it does not have.
-pub fn take_as(form: FormView<'_>, row: &[u64], kind: usize) -> Taking
-    ensures { λ r. ⌜ Answered (form-of (form .entry)) (now (row .entry)) kind r ⌝ }
+// Whether a form that is known to be one, and sorted, takes the paper in a row as a kind. It takes nothing as a kind that it does
+// not have.
+pub fn take_as(form: &SortedForm<'_>, row: &[u64], kind: usize) -> Taking
+    ensures { λ r. ⌜ Answered (form-of (now (form .entry) .form)) (now (row .entry)) kind r ⌝ }
 {
     let kinds = match take_whole(form, row) {
         Ok(paper) => paper.value,
         Err(fault) => return Taking::Refused(fault.refusal(row.len())),
     };
-    if kind < form.kinds() && holds(kinds, kind) {
+    if kind < form.form.kinds() && holds(kinds, kind) {
         Taking::Taken
     } else {
         Taking::NotTaken
@@ -58,8 +60,8 @@ pub fn take_as(form: FormView<'_>, row: &[u64], kind: usize) -> Taking
 }
 
 // The kinds that take the paper that a whole row is.
-fn take_whole<'a>(form: FormView<'_>, row: &'a [u64]) -> Result<Part<'a, u16>, Fault>
-    ensures { λ r. ⌜ Told (into (kinds-of (form-of (form .entry))) (read-row (now (row .entry)))) r ⌝ }
+fn take_whole<'a>(form: &SortedForm<'_>, row: &'a [u64]) -> Result<Part<'a, u16>, Fault>
+    ensures { λ r. ⌜ Told (into (kinds-of (form-of (now (form .entry) .form))) (read-row (now (row .entry)))) r ⌝ }
 {
     let paper = take_paper(form, row, DEEPEST)?;
     let [] = paper.rest else {

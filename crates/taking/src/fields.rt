@@ -6,36 +6,42 @@ ghost use Prim.Native.Nat.{ℕ, _<_};
 ghost use Rattle.forms.specs.Form.{ways-at, way-at, places-of};
 ghost use Rattle.forms.specs.View.{form-of};
 ghost use Rattle.taking.specs.declared.progress.Progress.the-variants.{At};
-ghost use Rattle.taking.specs.Masks.{test};
+ghost use Rattle.taking.specs.Groups.{Group-there, listed-places};
 ghost use Rattle.taking.specs.Seen.{progress-at, ends-well, Behind, Goes-on, Advances};
 ghost use Rattle.taking.specs.Takes.{find, record-takes};
+use crate::group::Group;
+use crate::group::WAYS;
 use crate::mask::holds;
-use crate::progress::ALL_WAYS;
 use crate::progress::Progress;
 use crate::progress::Records;
-use crate::progress::WAYS;
 use forms::FormView;
 use forms::Way;
 
 impl Records {
     // Before the first field: every way is at its first place.
     pub(crate) fn new() -> Records
-        ensures { λ r. ⌜ ((k w : ℕ) → progress-at (r .ways) k w ≡ At 0) ⌝ }
+        ensures { λ r. ⌜ ((i : ℕ) → progress-at (r .ways) i ≡ At 0) ⌝ }
     {
         Records {
-            ways: [Progress::At(0); ALL_WAYS],
+            ways: [Progress::At(0); WAYS],
         }
     }
 
-    // Takes every way on by a field with this name, whose paper these kinds take.
-    pub(crate) fn advance(&mut self, form: FormView<'_>, name: u64, kinds: u16)
-        ensures { λ _. ⌜ ((k w : ℕ) → k < length (form-of (form .entry)) → w < length (ways-at (form-of (form .entry)) k) → Advances name kinds (places-of (way-at (form-of (form .entry)) k w)) (progress-at (now (self .entry) .ways) k w) (progress-at (now (self .exit) .ways) k w)) ⌝ }
+    // Takes each of the listed ways on by a field with this name, whose paper these kinds take.
+    pub(crate) fn advance(&mut self, form: FormView<'_>, group: &Group, name: u64, kinds: u16)
+        requires { ⌜ Group-there (form-of form) (now group) ⌝ }
+        ensures { λ _. ⌜ ((i : ℕ) → i < now (group .entry) .count → Advances name kinds (listed-places (form-of (form .entry)) (now (group .entry) .ways) i) (progress-at (now (self .entry) .ways) i) (progress-at (now (self .exit) .ways) i)) ⌝ }
     {
-        for kind in 0..form.kinds() {
-            for way in 0..form.ways(kind) {
-                let slot = WAYS * kind + way;
-                self.ways[slot] = advanced(form, kind, way, self.ways[slot], name, kinds);
-            }
+        for index in 0..group.count {
+            let at = group.ways[index];
+            self.ways[index] = advanced(
+                form,
+                at.kind as usize,
+                at.way as usize,
+                self.ways[index],
+                name,
+                kinds,
+            );
         }
     }
 }

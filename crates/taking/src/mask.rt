@@ -1,6 +1,7 @@
 // Sets of kinds as masks: bit k says whether kind k is in the set.
 ghost use mathlib.Core.Path.{_≡_};
-ghost use Prim.Native.Nat.{_+_, _-_, _^_, _<_, _≤_};
+ghost use Prim.Native.Nat.{_-_, _^_, _<_, _≤_};
+ghost use lib.Bits.{bitOr};
 ghost use Rattle.taking.specs.Masks.{test};
 
 // Whether a kind is in the set.
@@ -19,11 +20,10 @@ pub(crate) fn first_kinds(count: usize) -> u16
     ((1u32 << count) - 1) as u16
 }
 
-// The set with a kind above all that are in it.
+// The set with one more kind.
 pub(crate) fn with(kinds: u16, kind: usize) -> u16
-    requires above { ⌜ kinds < 2 ^ kind ⌝ }
-    requires room { ⌜ kind < 16 ⌝ }
-    ensures { λ r. ⌜ r ≡ 2 ^ kind + kinds ⌝ }
+    requires { ⌜ kind < 16 ⌝ }
+    ensures { λ r. ⌜ r ≡ bitOr kinds (2 ^ kind) ⌝ }
 {
     kinds | (1 << kind)
 }

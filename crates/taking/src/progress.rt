@@ -1,9 +1,5 @@
 // How far the record ways of a form have come with the fields read so far.
-
-// The most ways of a kind that any form has, and the most ways in all, of 16 kinds.
-pub(crate) const WAYS: usize = 9;
-
-pub(crate) const ALL_WAYS: usize = 144;
+use crate::group::WAYS;
 
 // How far one way has come.
 #[derive(Clone, Copy)]
@@ -14,8 +10,8 @@ pub(crate) enum Progress {
     Dead,
 }
 
-// How far each way has come, by kind and then by way. A way that is no record has no places, so that the first field ends it.
+// How far each record way has come, in the order in which they are listed.
 #[derive(Clone, Copy)]
 pub(crate) struct Records {
-    pub(crate) ways: [Progress; ALL_WAYS],
+    pub(crate) ways: [Progress; WAYS],
 }

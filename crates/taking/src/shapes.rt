@@ -11,7 +11,6 @@ ghost use Rattle.taking.specs.Takes.{number-takes, list-takes, record-takes};
 use crate::fields::ends_well;
 use crate::mask::holds;
 use crate::progress::Records;
-use crate::progress::WAYS;
 use crate::seen::Seen;
 use forms::FormView;
 use forms::Way;
@@ -29,9 +28,9 @@ pub(crate) struct ListSeen {
 }
 
 pub(crate) impl Seen for NumberSeen as SeenNumber {
-    ghost sees = { λ s f k w. number-takes (s .number) (way-at f k w) };
+    ghost sees = { λ s f k w i. number-takes (s .number) (way-at f k w) };
 
-    fn seen_by(&self, form: FormView<'_>, kind: usize, way: usize) -> bool {
+    fn seen_by(&self, form: FormView<'_>, kind: usize, way: usize, index: usize) -> bool {
         match form.way(kind, way) {
             Way::Number { from, to } => from <= self.number && self.number <= to,
             Way::List { .. } | Way::Record { .. } => false,
@@ -40,9 +39,9 @@ pub(crate) impl Seen for NumberSeen as SeenNumber {
 }
 
 pub(crate) impl Seen for ListSeen as SeenList {
-    ghost sees = { λ s f k w. list-takes (s .count) (test (s .kinds)) (way-at f k w) };
+    ghost sees = { λ s f k w i. list-takes (s .count) (test (s .kinds)) (way-at f k w) };
 
-    fn seen_by(&self, form: FormView<'_>, kind: usize, way: usize) -> bool {
+    fn seen_by(&self, form: FormView<'_>, kind: usize, way: usize, index: usize) -> bool {
         match form.way(kind, way) {
             Way::List {
                 kind: inner,
@@ -57,9 +56,9 @@ pub(crate) impl Seen for ListSeen as SeenList {
 }
 
 pub(crate) impl Seen for Records as SeenRecord {
-    ghost sees = { λ s f k w. record-takes (ends-well (progress-at (s .ways) k w)) (way-at f k w) };
+    ghost sees = { λ s f k w i. record-takes (ends-well (progress-at (s .ways) i)) (way-at f k w) };
 
-    fn seen_by(&self, form: FormView<'_>, kind: usize, way: usize) -> bool {
-        ends_well(form, kind, way, self.ways[WAYS * kind + way])
+    fn seen_by(&self, form: FormView<'_>, kind: usize, way: usize, index: usize) -> bool {
+        ends_well(form, kind, way, self.ways[index])
     }
 }

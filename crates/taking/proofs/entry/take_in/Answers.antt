@@ -1,6 +1,7 @@
-use mathlib.Core.Path.{subst}
+use mathlib.Core.Path.{ap, subst, _∙_}
 use denote.Ref.{now}
 use Rattle.forms.specs.Layout.{form-in}
+use Rattle.forms.specs.View.{form-of}
 use Rattle.taking.specs.Answers.{Answered}
 use Rattle.taking.proofs.Answering.{answered, kind-asked, refused-asked}
 use Rattle.taking.proofs.entry.take_in.Needs as need
@@ -11,7 +12,7 @@ returns-in-Ok c =
     let v = c .new .ensures in
     answered (c .args .room) (c .args .form .now) (c .args .row .now) (c .args .k) (c .in-Ok .kind) (c .take-as .result)
     (kind-asked (c .args .room) (c .args .form .now) (c .args .k) (c .in-Ok .kind) (h .is)) (h .fits)
-    (subst (λ f. Answered f (c .args .row .now) (c .in-Ok .kind) (c .take-as .result)) (λ i. form-in (v .room i) (now (v .row i))) (c .take-as .ensures))
+    (subst (λ f. Answered f (c .args .row .now) (c .in-Ok .kind) (c .take-as .result)) (ap form-of (c .new-in-Ok .ensures) ∙ (λ i. form-in (v .room i) (now (v .row i)))) (c .take-as .ensures))
 
 pub returns-in-Err : need.returns-in-Err
 returns-in-Err c =

@@ -10,11 +10,11 @@ pub returns-in-Break-paper : need.returns-in-Break-paper
 returns-in-Break-paper c =
     let h = c .in-Break-paper .ensures tt in
     hands-on _ (c .from-residual .result) (c .in-Break-paper .field-0 .0) (c .from-residual .ensures .1)
-    (h .0, whole-fails (kinds-of (form-of (c .args .form))) (c .args .row .now) _ (h .0) (h .1), h .2)
+    (h .0, whole-fails (kinds-of (form-of (c .args .form .now .form))) (c .args .row .now) _ (h .0) (h .1), h .2)
 
 pub returns-in-rest : need.returns-in-rest
 returns-in-rest c =
-    (c .in-Continue-paper .paper .rest .now, whole-behind (kinds-of (form-of (c .args .form))) (c .args .row .now) (c .in-Continue-paper .paper .value) (c .in-Continue-paper .paper .rest .now) (c .in-Continue-paper .ensures tt) (search needs), refl)
+    (c .in-Continue-paper .paper .rest .now, whole-behind (kinds-of (form-of (c .args .form .now .form))) (c .args .row .now) (c .in-Continue-paper .paper .value) (c .in-Continue-paper .paper .rest .now) (c .in-Continue-paper .ensures tt) (search needs), refl)
 
 pub returns : need.returns
-returns c = whole-alone (kinds-of (form-of (c .args .form))) (c .args .row .now) (c .in-Continue-paper .paper .value) (c .in-Continue-paper .paper .rest .now) (c .in-Continue-paper .ensures tt) (search needs)
+returns c = whole-alone (kinds-of (form-of (c .args .form .now .form))) (c .args .row .now) (c .in-Continue-paper .paper .value) (c .in-Continue-paper .paper .rest .now) (c .in-Continue-paper .ensures tt) (search needs)

@@ -19,10 +19,10 @@ abbrev pub μ-take-record : given.MeasureT-take-record
 
 abbrev pub Inv-take-list-loop : given.InvT-take-list-loop
 Inv-take-list-loop l =
-    List-left (l .levels) (into (list-kinds (form-of (l .form))) (read-list (read-paper (l .levels)) (l .row)))
-    (list-last (form-of (l .form)) (l .counter) (l .kinds)) (l .end - l .counter) (l .row) (l .rest)
+    List-left (l .levels) (into (list-kinds (form-of (l .form .form))) (read-list (read-paper (l .levels)) (l .row)))
+    (list-last (form-of (l .form .form)) (l .counter) (l .kinds)) (l .end - l .counter) (l .row) (l .rest)
 
 abbrev pub Inv-take-record-loop : given.InvT-take-record-loop
 Inv-take-record-loop l =
-    Record-left (l .levels) (into (record-kinds (form-of (l .form))) (read-record (read-paper (l .levels)) (l .row)))
-    (record-last (form-of (l .form)) (l .records .ways)) (l .end - l .counter) (l .low) (l .row) (l .rest)
+    Record-left (l .levels) (into (record-kinds (form-of (l .form .form))) (read-record (read-paper (l .levels)) (l .row)))
+    (record-last (form-of (l .form .form)) (l .form .records) (l .records .ways)) (l .end - l .counter) (l .low) (l .row) (l .rest)
