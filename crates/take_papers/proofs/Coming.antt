@@ -60,22 +60,24 @@ row-front all old row n e h p =
     let row-is : row ≡ all ++ drop n old = p ∙ ap (λ v. v ++ drop n old) whole in
     (ap (take n) row-is ∙ take-at all (drop n old) n e, ap (drop n) row-is ∙ drop-at all (drop n old) n e)
 
-pub paper-came : (before begun held after old row : List ℕ) (n count : ℕ) → Goes-on before begun → Goes-on begun held → 4 ≤ length begun → first begun ≡ n → n ≤ 1000 → 4 + 4 * n ≤ length held → length old ≡ 1000 → count ≡ min (length (between 4 (4 + 4 * n) held) / 4) (length old) → row ≡ take count (numbers-in (between 4 (4 + 4 * n) held)) ++ drop count old → after ≡ drop (4 + 4 * n) held → Came before after old row n
-paper-came before begun held after old row n count (p, e) (q, f) four-there first-is few there long count-is row-is after-is =
+-- a paper: `begun` is held when its length is there, `held` when all of it is, `lent` is what is held as it is lent
+pub paper-came : (before begun held lent after old row : List ℕ) (n count : ℕ) {skipped : ℕ} → after ≡ drop skipped held → skipped ≡ 4 + 4 * n → lent ≡ held → Goes-on before begun → Goes-on begun held → 4 ≤ length begun → first begun ≡ n → n ≤ 1000 → 4 + 4 * n ≤ length lent → length old ≡ 1000 → count ≡ min (length (between 4 (4 + 4 * n) lent) / 4) (length old) → row ≡ take count (numbers-in (between 4 (4 + 4 * n) lent)) ++ drop count old → Came before after old row n
+paper-came before begun held lent after old row n count after-is skipped-is lent-is (p, e) (q, f) four-there first-is few there long count-is row-is =
     let size = 4 + 4 * n in
-    let part = between 4 size held in
-    let part-long : length part ≡ size - 4 = length-between held 4 size there in
+    let part = between 4 size lent in
+    let part-long : length part ≡ size - 4 = length-between lent 4 size there in
     let count-n : count ≡ n = omega arith in
     let all-long : length (numbers-in part) ≡ n = omega (arith, numbers-length part) in
     let front = row-front (numbers-in part) old row n all-long (omega arith) (subst (λ k. row ≡ take k (numbers-in part) ++ drop k old) count-n row-is) in
-    let held-is : before ++ (p ++ q) ≡ held = sym (append-assoc before p q) ∙ ap (λ v. v ++ q) (sym e) ∙ sym f in
-    let first-n : first held ≡ n = first-stays begun held (q, f) four-there ∙ first-is in
+    let all-is : before ++ (p ++ q) ≡ lent = sym (append-assoc before p q) ∙ ap (λ v. v ++ q) (sym e) ∙ sym f ∙ sym lent-is in
+    let rest-is : drop size lent ≡ after = ap (drop size) lent-is ∙ ap (λ k. drop k held) (sym skipped-is) ∙ sym after-is in
+    let first-n : first lent ≡ n = first-stays begun lent (q, lent-is ∙ f) four-there ∙ first-is in
     record {
       few = few;
       came = p ++ q;
-      used = take size held;
-      all = held-is ∙ sym (take-append-drop size held) ∙ ap (λ v. take size held ++ v) (sym after-is);
-      size = length-take-le size held there;
-      numbers = numbers-used held size (omega arith) there ∙ ap (λ k. k ∷ numbers-in part) first-n ∙ ap (λ v. n ∷ v) (sym (front .0));
+      used = take size lent;
+      all = all-is ∙ sym (take-append-drop size lent) ∙ ap (λ v. take size lent ++ v) rest-is;
+      size = length-take-le size lent there;
+      numbers = numbers-used lent size (omega arith) there ∙ ap (λ k. k ∷ numbers-in part) first-n ∙ ap (λ v. n ∷ v) (sym (front .0));
       rest = front .1;
     }

@@ -1,9 +1,8 @@
-use mathlib.Core.Path.{refl, ap, sym, subst, _∙_}
+use mathlib.Core.Path.{refl, ap}
 use native.Mathlib.Omega.{arith}
-use Prim.Native.Nat.{_+_, _*_}
-use lib.ListN.{length, drop}
+use lib.ListN.{length}
 use Rattle.std.proofs.shelf.Results.{err-from-errBy}
-use Rattle.take_papers.specs.Held.{held, Goes-on}
+use Rattle.take_papers.specs.Held.{held}
 use Rattle.take_papers.proofs.Coming.{counted-none, counted-some, none-before, cut-short, paper-came}
 use Rattle.take_papers.proofs.Held.{goes-further}
 use Rattle.take_papers.proofs.stream.Papers.next_into.Needs as need
@@ -40,10 +39,8 @@ returns g c =
     let lent = c .held-held .result .now in
     let n = c .in-Some .count in
     let told = counted-some (c .held .result .now) begun (c .in-Continue-count .field-0) n (c .held .ensures) (c .in-Some .is) (c .in-Continue-count .ensures tt) in
-    let is = sym (c .held-held .ensures) in
-    paper-came (held (c .args .self .now .block)) begun lent (held (c .skip .last .self)) (c .args .row .now) (c .numbers-into .last .row) n (c .numbers-into .result) (c .fill .ensures) (subst (Goes-on begun) is (c .fill-2 .ensures)) (told .0) (told .1) (told .2)
-    (c .if-held-size .left)
+    paper-came (held (c .args .self .now .block)) begun (held (c .fill-2 .last .self)) lent (held (c .skip .last .self)) (c .args .row .now) (c .numbers-into .last .row) n (c .numbers-into .result) (c .skip .ensures) (omega arith) (c .held-held .ensures) (c .fill .ensures) (c .fill-2 .ensures) (told .0) (told .1) (told .2)
+    (omega arith)
     (omega arith)
     (c .numbers-into .ensures .count)
     (c .numbers-into .ensures .row)
-    (c .skip .ensures ∙ ap (drop (4 + 4 * n)) is)
