@@ -97,11 +97,11 @@ grouped-other s f i j count ws h no-shape = record {
   all = λ k w b l e. elim b [
     | inl c ↦ h .all k w (inl c) l e
     | inr c ↦ elim (cases-lt w j) [
-        | inl d ↦ h .all k w (inr (c .0, d)) l e
-        | inr d ↦
-            let last : w ≡ j = omega (arith, c .1) in
-            absurd (both-ways (has-shape (shape (way-at f k w)) s) (subst (λ n. has-shape (shape (way-at f n w)) s ≡ false) (sym (c .0)) (subst (λ n. has-shape (shape (way-at f i n)) s ≡ false) (sym last) no-shape)) e)
-      ]
+      | inl d ↦ h .all k w (inr (c .0, d)) l e
+      | inr d ↦
+          let last : w ≡ j = omega (arith, c .1) in
+          absurd (both-ways (has-shape (shape (way-at f k w)) s) (subst (λ n. has-shape (shape (way-at f n w)) s ≡ false) (sym (c .0)) (subst (λ n. has-shape (shape (way-at f i n)) s ≡ false) (sym last) no-shape)) e)
+    ]
   ];
 }
 
@@ -140,14 +140,19 @@ grouped-push s f i j count ws more new h e z l m room =
   where
     here : WayAt
     here = record { kind = i; way = j }
+
     nowhere : WayAt
     nowhere = record { kind = 0; way = 0 }
+
     listed : List WayAt
     listed = set ws count here
+
     There : WayAt → Type 0
     There x = (x .kind < length f) × (x .way < length (ways-at f (x .kind)))
+
     at-end : entry listed count ≡ here
     at-end = getD-set-same ws count here nowhere (omega (arith, h .sized))
+
     before : (k w : ℕ) → Before i (j + 1) k w → Before i j k w ⊎ ((k ≡ i) × (w ≡ j))
     before k w (inl b) = inl (inl b)
     before k w (inr b) = elim (cases-lt w j) [ inl c ↦ inl (inr (b .0, c)) | inr c ↦ inr (b .0, omega (arith, b .1)) ]
@@ -161,11 +166,11 @@ grouped-kind s f i j count ws h e few = record {
   there = h .there;
   all = λ k w b l d. elim b [
     | inl c ↦ elim (cases-lt k i) [
-        | inl o ↦ h .all k w (inl o) l d
-        | inr o ↦
-            let same : k ≡ i = omega arith in
-            h .all k w (inr (same, omega (arith, e, ap (λ n. length (ways-at f n)) same))) l d
-      ]
+      | inl o ↦ h .all k w (inl o) l d
+      | inr o ↦
+          let same : k ≡ i = omega arith in
+          h .all k w (inr (same, omega (arith, e, ap (λ n. length (ways-at f n)) same))) l d
+    ]
     | inr c ↦ absurd (omega (arith, c .1))
   ];
 }

@@ -99,12 +99,12 @@ mask-or p (suc n) k h =
           ap (bitOr (bit (p n) * 2 ^ n + mask p n)) top ∙ or-block n (bit (p n)) 1 (mask p n) 0 (mask-lt p n) (pow-pos n)
           ∙ ap (λ x. x * 2 ^ n + bitOr (mask p n) 0) (in-bit (p n) (eqb k n) (eq-eqb k n e)) ∙ ap (λ x. bit (p n || eqb k n) * 2 ^ n + x) (or-zero-r (mask p n) ∙ rest)
       | inr o ↦ elim o [
-          | inl l ↦
-              let low : 2 ^ k ≡ 0 * 2 ^ n + 2 ^ k = omega arith in
-              ap (bitOr (bit (p n) * 2 ^ n + mask p n)) low ∙ or-block n (bit (p n)) 0 (mask p n) (2 ^ k) (mask-lt p n) (pow-below k n l)
-              ∙ ap (λ x. x * 2 ^ n + bitOr (mask p n) (2 ^ k)) (out-bit (p n) (eqb k n) (ne-eqb k n (λ q. omega arith))) ∙ ap (λ x. bit (p n || eqb k n) * 2 ^ n + x) (mask-or p n k l)
-          | inr l ↦ absurd (omega arith)
-        ]
+        | inl l ↦
+            let low : 2 ^ k ≡ 0 * 2 ^ n + 2 ^ k = omega arith in
+            ap (bitOr (bit (p n) * 2 ^ n + mask p n)) low ∙ or-block n (bit (p n)) 0 (mask p n) (2 ^ k) (mask-lt p n) (pow-below k n l)
+            ∙ ap (λ x. x * 2 ^ n + bitOr (mask p n) (2 ^ k)) (out-bit (p n) (eqb k n) (ne-eqb k n (λ q. omega arith))) ∙ ap (λ x. bit (p n || eqb k n) * 2 ^ n + x) (mask-or p n k l)
+        | inr l ↦ absurd (omega arith)
+      ]
     ]
   where
     out : (x y : Bool) → y ≡ false → x ≡ (x || y)

@@ -72,9 +72,12 @@ take-paper-returns-in-Break-papers t c =
     let f = form-of (c .args .form .now .form) in
     let o = c .in-Continue-opening .ensures tt in
     let h = c .in-Break-papers .ensures tt in
-    hands-on _ (c .from-residual-in-Break-papers .result) (c .in-Break-papers .field-0 .0) (c .from-residual-in-Break-papers .ensures .1)
-    (h .0, list-inside (kinds-of f) (λ x. x) (c .args .levels) (c .in-Continue-opening .opening .below) (c .args .row .now) (c .in-Continue-opening .opening .rest .now) (c .in-Continue-opening .opening .start) (o .0) (o .1)
-    (list-kinds f) (λ x. refl) (c .in-List .is) (fault (c .in-Break-papers .field-0 .0 .why) (h .0)) (h .1), h .2)
+    hands-on _ (c .from-residual-in-Break-papers .result) (c .in-Break-papers .field-0 .0) (c .from-residual-in-Break-papers .ensures .1) (
+      h .0,
+      list-inside (kinds-of f) (λ x. x) (c .args .levels) (c .in-Continue-opening .opening .below) (c .args .row .now) (c .in-Continue-opening .opening .rest .now) (c .in-Continue-opening .opening .start) (o .0) (o .1)
+          (list-kinds f) (λ x. refl) (c .in-List .is) (fault (c .in-Break-papers .field-0 .0 .why) (h .0)) (h .1),
+      h .2,
+    )
 
 pub take-paper-returns-in-Continue-papers : need.take-paper-returns-in-Continue-papers
 take-paper-returns-in-Continue-papers t c =
@@ -88,9 +91,12 @@ take-paper-returns-in-Break-fields t c =
     let f = form-of (c .args .form .now .form) in
     let o = c .in-Continue-opening .ensures tt in
     let h = c .in-Break-fields .ensures tt in
-    hands-on _ (c .from-residual-in-Break-fields .result) (c .in-Break-fields .field-0 .0) (c .from-residual-in-Break-fields .ensures .1)
-    (h .0, record-inside (kinds-of f) (λ x. x) (c .args .levels) (c .in-Continue-opening .opening .below) (c .args .row .now) (c .in-Continue-opening .opening .rest .now) (c .in-Continue-opening .opening .start) (o .0) (o .1)
-    (record-kinds f) (λ x. refl) (c .in-Record .is) (fault (c .in-Break-fields .field-0 .0 .why) (h .0)) (h .1), h .2)
+    hands-on _ (c .from-residual-in-Break-fields .result) (c .in-Break-fields .field-0 .0) (c .from-residual-in-Break-fields .ensures .1) (
+      h .0,
+      record-inside (kinds-of f) (λ x. x) (c .args .levels) (c .in-Continue-opening .opening .below) (c .args .row .now) (c .in-Continue-opening .opening .rest .now) (c .in-Continue-opening .opening .start) (o .0) (o .1)
+          (record-kinds f) (λ x. refl) (c .in-Record .is) (fault (c .in-Break-fields .field-0 .0 .why) (h .0)) (h .1),
+      h .2,
+    )
 
 pub take-paper-returns-in-Continue-fields : need.take-paper-returns-in-Continue-fields
 take-paper-returns-in-Continue-fields t c =
