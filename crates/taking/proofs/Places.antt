@@ -74,8 +74,8 @@ no-places (list k a b) s e h = refl
 no-places (record-of ps) s e h = absurd (h (length ps) e)
 
 -- what becomes of a way: its place was not found, or was found
-pub dead : (m : ℕ) (found : Found) (ps : List Place) → found ≡ nowhere → Goes-on m found ps Dead
-dead m found ps e = subst (λ f. Goes-on m f ps Dead) (sym e) tt
+pub dead : (m : ℕ) (found : Found) (ps : List Place) (q : Progress) → found ≡ nowhere → q ≡ Dead → Goes-on m found ps q
+dead m found ps q e h = subst (λ f. Goes-on m f ps q) (sym e) (subst (Goes-on m nowhere ps) (sym h) tt)
 
 pub goes-on : (m i k : ℕ) (found : Found) (ps : List Place) (taken : Bool) (q : Progress) → found ≡ at k (drop (i + 1) ps) → taken ≡ test m k →
     Behind i taken q → Goes-on m found ps q

@@ -11,9 +11,9 @@ use Rattle.taking.proofs.fields.go_on.Needs as need
 pub returns-in-rest : need.returns-in-rest
 returns-in-rest c =
     let ps = places-of (way-at (form-of (c .args .form)) (c .args .kind) (c .args .way)) in
-    dead (c .args .kinds) _ ps
+    dead (c .args .kinds) _ ps _
     (ap (λ qs. find (c .args .name) (drop (c .args .from) qs)) (no-places (way-at (form-of (c .args .form)) (c .args .kind) (c .args .way)) (c .way .result) (c .way .ensures .is) (c .in-rest .not-Record))
-    ∙ find-ends (c .args .name) _ (c .args .from) (omega arith))
+    ∙ find-ends (c .args .name) _ (c .args .from) (omega arith)) (cc)
 
 pub holds-requires : need.holds-requires
 holds-requires c κs = omega (arith, c .place-place .ensures .limits, kinds-few (c .args .form))
@@ -24,14 +24,14 @@ returns-then-place-name c =
     goes-on (c .args .kinds) (c .loop-index .index) (c .place-place .result .kind) _ ps (c .holds .result) (c .behind .result)
     (c .loop-index .inv
     ∙ find-here ps (c .loop-index .index) (c .place-place .result) (omega (arith, c .in-Record .ensures tt .places)) (c .place-place .ensures .is) (c .args .name) (c .if-place-name .taken))
-    (c .holds .ensures) (c .behind .ensures)
+    (cc) (c .behind .ensures)
 
 pub returns-then-place : need.returns-then-place
 returns-then-place c =
     let ps = places-of (way-at (form-of (c .args .form)) (c .args .kind) (c .args .way)) in
-    dead (c .args .kinds) _ ps
+    dead (c .args .kinds) _ ps _
     (c .loop-index .inv
-    ∙ find-stops ps (c .loop-index .index) (c .place-place .result) (omega (arith, c .in-Record .ensures tt .places)) (c .place-place .ensures .is) (c .args .name) (c .if-place-name .left) (c .if-place .taken))
+    ∙ find-stops ps (c .loop-index .index) (c .place-place .result) (omega (arith, c .in-Record .ensures tt .places)) (c .place-place .ensures .is) (c .args .name) (c .if-place-name .left) (c .if-place .taken)) (cc)
 
 pub loop-index-again : need.loop-index-again
 loop-index-again c =
@@ -42,4 +42,4 @@ loop-index-again c =
 pub returns : need.returns
 returns c =
     let ps = places-of (way-at (form-of (c .args .form)) (c .args .kind) (c .args .way)) in
-    dead (c .args .kinds) _ ps (c .loop-index .inv ∙ find-ends (c .args .name) ps (c .loop-index .index) (omega (arith, c .in-Record .ensures tt .places)))
+    dead (c .args .kinds) _ ps _ (c .loop-index .inv ∙ find-ends (c .args .name) ps (c .loop-index .index) (omega (arith, c .in-Record .ensures tt .places))) (cc)

@@ -39,7 +39,7 @@ take-list-loop-again t c =
     let f = form-of (c .args .form .now .form) in
     list-goes-on (c .args .levels) (kinds-of f) _ (list-last f (c .loop .counter) (c .loop .kinds)) (list-last f (c .loop .counter + 1) _) _ (c .in-Continue-count .count .value - (c .loop .counter + 1)) (c .in-Continue-paper .paper .value)
     (c .args .row .now) (c .loop .rest .now) (c .in-Continue-paper .paper .rest .now) (omega arith)
-    (list-next f (c .loop .counter) (c .loop .counter + 1) (c .loop .kinds) (c .in-Continue-paper .paper .value) _ (view-closed (c .args .form .now .form)) (omega arith) refl) (c .loop .inv) (c .in-Continue-paper .ensures tt)
+    (list-next f (c .loop .counter) (c .loop .counter + 1) (c .loop .kinds) (c .in-Continue-paper .paper .value) _ (view-closed (c .args .form .now .form)) (omega arith) (cc)) (c .loop .inv) (c .in-Continue-paper .ensures tt)
 
 pub take-list-returns : need.take-list-returns
 take-list-returns t c =
