@@ -1,4 +1,10 @@
 // Takes or refuses papers, one after the other, from standard input.
+ghost use mathlib.Core.Bool.{true};
+ghost use mathlib.Core.Path.{_≡_};
+ghost use Rattle.std.specs.Vec.{made};
+ghost use Rattle.taking.specs.Answers.{Exactly, Row-taken};
+ghost use Rattle.taking.specs.Sorted.{sorted-of};
+
 mod block;
 mod broken;
 mod stream;
@@ -56,7 +62,9 @@ fn answer(
     kind: usize,
     row: &[u64],
     out: &mut BufWriter<Stdout>,
-) -> Result<bool, AnyError> {
+) -> Result<bool, AnyError>
+    ensures { λ r. ⌜ made r (λ taken. Exactly (taken ≡ true) (Row-taken (sorted-of (now (form .entry))) (now (row .entry)) kind true)) ⌝ }
+{
     match take_as(form, row, kind) {
         Taking::Taken => {
             out.write_all(b"taken\n")?;

@@ -118,3 +118,8 @@ refused-asked room form row k e h first =
       not-taken = (λ x. let z : _≡_ {A = ℕ} 0 1 = cc in absurd (omega arith), λ q. told-false (Refused e) (is ∙ one-answer room form row k false (q .0) (q .1)));
       refused = λ x q. let same : e ≡ x = cc in subst (Why-refused room form row k) same (inl (sym h, first));
     }
+
+-- a row that is taken is answered so
+pub taken-if : (f : Form) (row : List ℕ) (k : ℕ) (r : Taking) → Answered f row k r → Row-taken f row k true → r ≡ Taken
+taken-if f row k r a t =
+    told-true r (answered-is f row k r a ∙ ap (row-answer f row k) (read-again row (t .0) (t .1)) ∙ ap Ok (t .2))

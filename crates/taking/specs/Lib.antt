@@ -4,3 +4,4 @@ pub mod Masks
 pub mod Groups
 pub mod Seen
 pub mod Answers
+pub mod Sorted

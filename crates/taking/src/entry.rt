@@ -3,7 +3,7 @@ ghost use denote.Ref.{now};
 ghost use Rattle.papers.specs.Reading.{into, read-row};
 ghost use Rattle.papers.specs.Telling.{Told};
 ghost use Rattle.forms.specs.declared.room.Room.the-variants.{Plain};
-ghost use Rattle.forms.specs.View.{form-of};
+ghost use Rattle.taking.specs.Sorted.{sorted-of};
 ghost use Rattle.taking.specs.Answers.{Answered, Take-told};
 ghost use Rattle.taking.specs.Masks.{kinds-of};
 use crate::mask::holds;
@@ -46,7 +46,7 @@ pub fn take_in(form: &[u64], room: Room, row: &[u64], k: u64) -> Taking
 // Whether a form that is known to be one, and sorted, takes the paper in a row as a kind. It takes nothing as a kind that it does
 // not have.
 pub fn take_as(form: &SortedForm<'_>, row: &[u64], kind: usize) -> Taking
-    ensures { λ r. ⌜ Answered (form-of (now (form .entry) .form)) (now (row .entry)) kind r ⌝ }
+    ensures { λ r. ⌜ Answered (sorted-of (now (form .entry))) (now (row .entry)) kind r ⌝ }
 {
     let kinds = match take_whole(form, row) {
         Ok(paper) => paper.value,
@@ -61,7 +61,7 @@ pub fn take_as(form: &SortedForm<'_>, row: &[u64], kind: usize) -> Taking
 
 // The kinds that take the paper that a whole row is.
 fn take_whole<'a>(form: &SortedForm<'_>, row: &'a [u64]) -> Result<Part<'a, u16>, Fault>
-    ensures { λ r. ⌜ Told (into (kinds-of (form-of (now (form .entry) .form))) (read-row (now (row .entry)))) r ⌝ }
+    ensures { λ r. ⌜ Told (into (kinds-of (sorted-of (now (form .entry)))) (read-row (now (row .entry)))) r ⌝ }
 {
     let paper = take_paper(form, row, DEEPEST)?;
     let [] = paper.rest else {

@@ -3,7 +3,7 @@
 ghost use denote.Ref.{now};
 ghost use Rattle.papers.specs.Reading.{into, read-list, read-record, read-paper};
 ghost use Rattle.papers.specs.Telling.{Told};
-ghost use Rattle.forms.specs.View.{form-of};
+ghost use Rattle.taking.specs.Sorted.{sorted-of};
 ghost use Rattle.taking.specs.Masks.{kinds-of, list-kinds, record-kinds};
 use crate::mask::first_kinds;
 use crate::progress::Records;
@@ -26,7 +26,7 @@ pub(crate) fn take_paper<'a>(
     row: &'a [u64],
     levels: u64,
 ) -> Result<Part<'a, u16>, Fault>
-    ensures { λ r. ⌜ Told (into (kinds-of (form-of (now (form .entry) .form))) (read-paper levels (now (row .entry)))) r ⌝ }
+    ensures { λ r. ⌜ Told (into (kinds-of (sorted-of (now (form .entry)))) (read-paper levels (now (row .entry)))) r ⌝ }
 {
     let opening = open_paper(row, levels)?;
     match opening.start {
@@ -57,7 +57,7 @@ pub(crate) fn take_paper<'a>(
 
 // The papers of a list behind its start, how many and each: the kinds that take the list, and the rest.
 fn take_list<'a>(form: &SortedForm<'_>, row: &'a [u64], levels: u64) -> Result<Part<'a, u16>, Fault>
-    ensures { λ r. ⌜ Told (into (list-kinds (form-of (now (form .entry) .form))) (read-list (read-paper levels) (now (row .entry)))) r ⌝ }
+    ensures { λ r. ⌜ Told (into (list-kinds (sorted-of (now (form .entry)))) (read-list (read-paper levels) (now (row .entry)))) r ⌝ }
 {
     let count = number_from(row, 0)?;
     let mut kinds = first_kinds(form.form.kinds());
@@ -86,7 +86,7 @@ fn take_record<'a>(
     row: &'a [u64],
     levels: u64,
 ) -> Result<Part<'a, u16>, Fault>
-    ensures { λ r. ⌜ Told (into (record-kinds (form-of (now (form .entry) .form))) (read-record (read-paper levels) (now (row .entry)))) r ⌝ }
+    ensures { λ r. ⌜ Told (into (record-kinds (sorted-of (now (form .entry)))) (read-record (read-paper levels) (now (row .entry)))) r ⌝ }
 {
     let count = number_from(row, 0)?;
     let mut records = Records::new();
