@@ -1,5 +1,5 @@
 -- How deep papers are, step by step. Assumes nothing.
-use mathlib.Core.Path.{_≡_, refl, ap, _∙_}
+use mathlib.Core.Path.{_≡_, refl}
 use mathlib.Core.List.{List, _∷_}
 use Prim.Native.Nat.{ℕ, suc, max, _≤_}
 use native.Mathlib.Omega.{arith}

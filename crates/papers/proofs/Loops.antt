@@ -2,7 +2,7 @@
 --
 -- A loop has read some papers and has others left. `whole` is what the list comes to; `last` makes that of the papers that are left, and so
 -- has in it what the loop made of those before.
-use mathlib.Core.Path.{_≡_, refl, sym, ap, subst, _∙_}
+use mathlib.Core.Path.{_≡_, refl, sym, ap, _∙_}
 use mathlib.Core.List.{List}
 use Prim.Native.Nat.{ℕ, suc, _≤_}
 use native.Mathlib.Omega.{arith}

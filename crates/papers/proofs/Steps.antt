@@ -17,13 +17,12 @@ use Rattle.papers.specs.declared.reading.Fault.{Fault}
 use Rattle.papers.specs.declared.reading.Part.{Part}
 use Rattle.papers.specs.declared.reading.Start.{Start}
 use Rattle.papers.specs.declared.reading.Start.the-variants.{Number, List as List-start, Record}
-use Rattle.papers.specs.declared.reading.Why.{Why}
 use Rattle.papers.specs.declared.reading.Why.the-variants.{NoPaper, Deeper}
 use Rattle.papers.specs.Telling.{start-number, Told}
 use Rattle.papers.specs.Row.{limit}
 use Rattle.papers.specs.Reading.{Outcome, done, fault, into, number-from, read-list, read-record, read-paper}
 use Rattle.papers.specs.Paper.{Paper, num, items, fields, Papers, Fields}
-use Rattle.papers.proofs.Outcomes.{into-done, into-fault, number-reads, number-read}
+use Rattle.papers.proofs.Outcomes.{into-done, number-reads, number-read}
 use Rattle.papers.proofs.Causal.{paper-causal}
 
 -- the rest of a row behind its first number, as the code reads it

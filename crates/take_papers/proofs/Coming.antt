@@ -11,7 +11,7 @@ use Rattle.std.specs.Holes.{between}
 use Rattle.std.specs.declared.option.Option.{Option}
 use Rattle.std.specs.declared.option.Option.the-variants.{Some, None}
 use Rattle.std.specs.declared.result.Result.the-variants.{Ok}
-use Rattle.programs.specs.Bytes.{four, numbers-in}
+use Rattle.programs.specs.Bytes.{numbers-in}
 use Rattle.programs.proofs.Steps.{first-number, numbers-length}
 use Rattle.take_papers.specs.Coming.{first, Counted, Came}
 use Rattle.take_papers.specs.Held.{Goes-on}

@@ -25,9 +25,6 @@ pub record Advanced (f : Form) (ws : List WayAt) (x m j : ℕ) (old new : List P
   pub done : (i : ℕ) → i < j → Advances x m (listed-places f ws i) (progress-at old i) (progress-at new i)
   pub rest : (i : ℕ) → j ≤ i → progress-at new i ≡ progress-at old i
 
-pub none-advanced : (f : Form) (ws : List WayAt) (x m : ℕ) (old : List Progress) → Advanced f ws x m 0 old old
-none-advanced f ws x m old = record { done = λ i l. absurd (omega arith); rest = λ i l. refl }
-
 pub one-advanced : (f : Form) (ws : List WayAt) (x m j : ℕ) (old new : List Progress) (q : Progress) → j < length new → Advanced f ws x m j old new →
     Advances x m (listed-places f ws j) (progress-at new j) q → Advanced f ws x m (j + 1) old (set new j q)
 one-advanced f ws x m j old new q l h a = record {

@@ -2,12 +2,11 @@
 use mathlib.Core.Path.{_≡_, refl, sym, ap, subst, _∙_}
 use mathlib.Core.Bool.{Bool, true, false}
 use mathlib.Core.List.{List, [], append-nil}
-use mathlib.Core.Logic.{_⊎_, inl, inr}
-use Prim.Native.Nat.{ℕ, _-_, _≤_, _<_}
+use mathlib.Core.Logic.{inl, inr}
+use Prim.Native.Nat.{ℕ, _-_, _≤_}
 use native.Mathlib.Omega.{arith}
 use lib.Dec.{ltb}
 use lib.ListN.{length}
-use Rattle.std.specs.declared.result.Result.{Result}
 use Rattle.std.specs.declared.result.Result.the-variants.{Ok, Err}
 use Rattle.std.proofs.shelf.Tests.{lt-ltb}
 use Rattle.papers.specs.declared.refusal.Refusal.{Refusal}
@@ -15,7 +14,7 @@ use Rattle.papers.specs.Paper.{Paper}
 use Rattle.papers.specs.Reading.{Outcome, done, fault, into, read-row, deepest}
 use Rattle.papers.specs.Refusals.{number-of, place-of}
 use Rattle.papers.specs.Row.{row-of}
-use Rattle.papers.specs.Telling.{Stands, Turned-away, Refuses, number-for}
+use Rattle.papers.specs.Telling.{Stands, Refuses, number-for}
 use Rattle.papers.proofs.Answering.{row-stands, round-trip}
 use Rattle.forms.specs.declared.room.Room.{Room}
 use Rattle.forms.specs.Asked.{Has-kind, one-asked, refuse-unless}
@@ -26,7 +25,6 @@ use Rattle.taking.specs.declared.entry.Taking.{Taking}
 use Rattle.taking.specs.declared.entry.Taking.the-variants.{Taken, NotTaken, Refused}
 use Rattle.taking.specs.Answers.{told-taking, Row-taken, Answered, row-answer, take-answer, Why-refused, Take-told}
 use Rattle.taking.specs.Masks.{test, kinds-of}
-use Rattle.taking.specs.Takes.{takes}
 use Rattle.taking.proofs.Folding.{none-there, test-kinds}
 
 -- a whole row, the kinds that take it, and whether one of them is asked for

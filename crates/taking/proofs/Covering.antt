@@ -7,6 +7,7 @@ use Prim.Native.Nat.{ℕ, _≤_}
 use native.Mathlib.Omega.{arith}
 use lib.Dec.{leb}
 use Rattle.std.proofs.shelf.Tests.{leb-true, le-leb, and-parts, and-from, or-cases, or-left, or-right, not-true, not-from-false, false≢true, cases-eq}
+use Rattle.std.proofs.shelf.Ways.{same-from-decides}
 use Rattle.papers.specs.Paper.{Paper, num, items, fields, Papers, no-items, item, Fields, no-fields, field, count}
 use Rattle.forms.specs.declared.way.Place.{Place}
 use Rattle.forms.specs.Form.{Form, Way, number, list, record-of, ways-at}
@@ -148,14 +149,9 @@ module _ (f g : Form) (R : ℕ → ℕ → Type 0) (covered : (k j : ℕ) → R 
         and-from (takes d g j) (fields-take fs g qs) (covered-takes d k j r (s .0)) (fields-covered fs ps qs c (s .1)))
         ps qs c h
 
-same-test : (a b : Bool) → (a ≡ true → b ≡ true) → (b ≡ true → a ≡ true) → a ≡ b
-same-test true b p q = sym (p refl)
-same-test false true p q = q refl
-same-test false false p q = refl
-
 -- If they are covered both ways, related kinds take the same papers.
 pub alike-takes : (f g : Form) (R : ℕ → ℕ → Type 0) → ((k j : ℕ) → R k j → Alike R (ways-at f k) (ways-at g j)) →
     (d : Paper) (k j : ℕ) → R k j → takes d f k ≡ takes d g j
 alike-takes f g R alike d k j r =
-    same-test (takes d f k) (takes d g j) (covered-takes f g R (λ k j r. alike k j r .0) d k j r)
-    (covered-takes g f (λ j k. R k j) (λ j k r. alike k j r .1) d j k r)
+    same-from-decides {P = takes d f k ≡ true} (takes d f k) (takes d g j) (λ e. e, λ e. e)
+    (covered-takes g f (λ j k. R k j) (λ j k r. alike k j r .1) d j k r, covered-takes f g R (λ k j r. alike k j r .0) d k j r)

@@ -9,6 +9,7 @@ use lib.Dec.{eqb, leb}
 use lib.ListN.{length, drop}
 use Rattle.std.proofs.shelf.Lists.{getD-past}
 use Rattle.std.proofs.shelf.Tests.{and-parts, and-from, eqb-true, eq-eqb}
+use Rattle.std.proofs.shelf.Ways.{same-from-decides}
 use Rattle.papers.specs.Paper.{Paper, num, items, fields, Papers, no-items, item, Fields, no-fields, field, count}
 use Rattle.forms.specs.declared.way.Place.{Place}
 use Rattle.forms.specs.Form.{Form, Way, number, list, record-of, shape, ways-at, way-at, places-of, kinds-there-ways, Closed}
@@ -42,11 +43,6 @@ unfolding kinds-of
 test-kinds f d = test-whole (takes d f) (length f) (none-there d f)
 
 -- the kinds of which a way passes a test are those of which a listed way does, where only ways of the listed shape pass
-same-truth : (x y : Bool) → (x ≡ true → y ≡ true) → (y ≡ true → x ≡ true) → x ≡ y
-same-truth true y h l = sym (h refl)
-same-truth false true h l = l refl
-same-truth false false h l = refl
-
 any-listed : (s : Shape) (f : Form) (g : Group) → group-fits s f g ≡ true → (p : Way → Bool) → ((w : Way) → p w ≡ true → has-shape (shape w) s ≡ true) →
     (k : ℕ) → k < length f → any p (ways-at f k) ≡ true → kind-sees (λ j w i. p (way-at f j w)) (g .ways) (g .count) k ≡ true
 unfolding sees-as
@@ -74,7 +70,8 @@ kinds-any : (s : Shape) (f : Form) (g : Group) → group-fits s f g ≡ true →
 unfolding kinds-seen
 kinds-any s f g fits p only =
     mask-same (λ k. any p (ways-at f k)) (kind-sees (λ j w i. p (way-at f j w)) (g .ways) (g .count)) (length f)
-    (λ k l. same-truth (any p (ways-at f k)) (kind-sees (λ j w i. p (way-at f j w)) (g .ways) (g .count) k) (any-listed s f g fits p only k l) (listed-any s f g fits p k))
+    (λ k l. same-from-decides {P = any p (ways-at f k) ≡ true} (any p (ways-at f k)) (kind-sees (λ j w i. p (way-at f j w)) (g .ways) (g .count) k) (λ e. e, λ e. e)
+    (listed-any s f g fits p k, any-listed s f g fits p only k l))
 
 -- only ways of one shape take a number, a list, a record
 numbers-only : (n : ℕ) (w : Way) → number-takes n w ≡ true → has-shape (shape w) Number ≡ true

@@ -1,12 +1,12 @@
 -- The ways of one shape: that a group lists them all, and how it is filled. Assumes nothing.
-use mathlib.Core.Path.{_≡_, refl, sym, ap, subst, _∙_}
-use mathlib.Core.Bool.{Bool, true, false, not, _&&_, _||_}
+use mathlib.Core.Path.{_≡_, sym, ap, subst, _∙_}
+use mathlib.Core.Bool.{true, false, not, _&&_}
 use mathlib.Core.List.{List}
-use mathlib.Core.Logic.{_⊎_, inl, inr, _≢_}
+use mathlib.Core.Logic.{_⊎_, inl, inr}
 use Prim.Native.Nat.{ℕ, _+_, _*_, _≤_, _<_}
 use native.Mathlib.Omega.{arith}
 use lib.Dec.{eqb, leb, ltb}
-use lib.ListN.{length, getD, set, length-set}
+use lib.ListN.{length, set, length-set}
 use Rattle.std.proofs.shelf.Lists.{getD-set-same, getD-set-other}
 use Rattle.std.proofs.shelf.Tests.{and-parts, and-from, or-left, or-right, leb-true, le-leb, ltb-true, lt-ltb, eqb-true, eq-eqb, cases-bool, cases-lt, not-from-true, not-from-false, both-ways, or-cases}
 use Rattle.forms.specs.Fits.{every}
@@ -17,7 +17,7 @@ use Rattle.taking.specs.declared.group.Shape.{Shape}
 use Rattle.taking.specs.declared.group.WayAt.{WayAt}
 use Rattle.taking.specs.Groups.{has-shape, entry, entry-there, stands-at, kept-way, kept-kind, group-fits, Group-there}
 use Rattle.taking.specs.Masks.{some-below}
-use Rattle.taking.proofs.Below.{below-none, below-some, below-found, below-suc, below-same}
+use Rattle.taking.proofs.Below.{below-some, below-found, below-suc, below-same}
 
 -- the parts of what a group keeps to
 fit-parts : (s : Shape) (f : Form) (g : Group) → group-fits s f g ≡ true →

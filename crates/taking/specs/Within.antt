@@ -4,7 +4,7 @@ use mathlib.Core.Path.{_≡_}
 use mathlib.Core.Bool.{true, false}
 use mathlib.Core.List.{List, [], _∷_, _++_}
 use Prim.Native.Nat.{ℕ, _+_, _≤_, _<_}
-use lib.ListN.{length, getD, set}
+use lib.ListN.{length, set}
 use Rattle.papers.specs.Paper.{Paper, well}
 use Rattle.forms.specs.declared.way.Place.{Place}
 use Rattle.forms.specs.Form.{Form, Way, number, list, record-of, ways-at, Closed}

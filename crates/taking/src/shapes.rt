@@ -1,10 +1,6 @@
 // What is kept of a number, of a list and of a record while it is read.
-ghost use denote.Ref.{now};
-ghost use lib.ListN.{length};
-ghost use mathlib.Core.Path.{_≡_};
 ghost use Prim.Native.Nat.{_<_};
-ghost use Rattle.forms.specs.Form.{ways-at, way-at};
-ghost use Rattle.forms.specs.View.{form-of};
+ghost use Rattle.forms.specs.Form.{way-at};
 ghost use Rattle.taking.specs.Masks.{test};
 ghost use Rattle.taking.specs.Seen.{progress-at, ends-well};
 ghost use Rattle.taking.specs.Takes.{number-takes, list-takes, record-takes};

@@ -3,7 +3,6 @@ use Prim.Native.Nat.{suc, _+_, _-_}
 use native.Mathlib.Omega.{arith}
 use Rattle.papers.specs.Paper.{deep, all-deep, fields-deep}
 use Rattle.papers.specs.Reading.{done, fault, into}
-use Rattle.papers.specs.Telling.{start-number}
 use Rattle.papers.proofs.Steps.{hands-on, number-shortens, name-below, number-inside, list-inside, record-inside}
 use Rattle.papers.proofs.Loops.{list-begins, list-none, list-goes-on, list-fails, list-ends, record-begins, record-none, record-goes-on, name-fails, field-fails, record-ends}
 use Rattle.papers.proofs.Depths.{flat, deep-num, deep-items, deep-fields, deeper, deeper-field, deeper-item, deeper-next, deeper-none, deeper-field-none, list-flat, record-flat}

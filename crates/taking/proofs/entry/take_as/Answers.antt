@@ -4,7 +4,6 @@ use Rattle.forms.specs.View.{form-of}
 use Rattle.papers.proofs.Answering.{turned-away}
 use Rattle.taking.specs.Masks.{kinds-of}
 use Rattle.taking.proofs.Answering.{row-taken, no-such-kind}
-use Rattle.taking.proofs.Rooms.{kinds-few}
 use Rattle.taking.proofs.entry.take_as.Needs as need
 use Rattle.taking.proofs.entry.take_as.Needs.{else-kind-kinds·by·then-kind-kinds·else-holds, else-kind-kinds·by·else-kind-kinds}
 

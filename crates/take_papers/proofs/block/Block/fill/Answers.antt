@@ -1,5 +1,5 @@
 use mathlib.Core.Path.{refl, _∙_}
-use Rattle.take_papers.specs.Held.{held, Goes-on}
+use Rattle.take_papers.specs.Held.{held}
 use Rattle.take_papers.proofs.Held.{stays, goes-further, goes-on-from}
 use Rattle.take_papers.proofs.block.Block.fill.Given as given
 use Rattle.take_papers.proofs.block.Block.fill.Needs as need
