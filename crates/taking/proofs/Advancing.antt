@@ -12,7 +12,7 @@ use Rattle.taking.specs.declared.group.WayAt.{WayAt}
 use Rattle.taking.specs.declared.progress.Progress.{Progress}
 use Rattle.taking.specs.declared.progress.Progress.the-variants.{At}
 use Rattle.taking.specs.Groups.{listed-places}
-use Rattle.taking.specs.Seen.{progress-at, Advances}
+use Rattle.taking.specs.Advance.{progress-at, Advances}
 
 -- before the first field
 pub all-first : (n i : ℕ) → getD (replicate n (At 0)) i (At 0) ≡ At 0

@@ -20,7 +20,7 @@ use Rattle.taking.specs.declared.progress.Progress.{Progress}
 use Rattle.taking.specs.declared.progress.Progress.the-variants.{At, Dead}
 use Rattle.taking.specs.Groups.{has-shape, entry, listed-way, listed-places, group-fits, sees-as, kind-sees, kinds-seen}
 use Rattle.taking.specs.Masks.{mask, test, kinds-of, list-kinds, record-kinds}
-use Rattle.taking.specs.Seen.{progress-at, ends-well, Goes-on, Advances}
+use Rattle.taking.specs.Advance.{progress-at, ends-well, Goes-on, Advances}
 use Rattle.taking.specs.Takes.{any, number-takes, list-takes, record-takes, Found, at, nowhere, find, if-found, takes, all-take, fields-take}
 use Rattle.taking.proofs.Below.{below-some, below-found, any-below}
 use Rattle.taking.proofs.Groups.{group-there, group-all}

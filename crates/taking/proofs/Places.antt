@@ -16,7 +16,7 @@ use Rattle.forms.specs.Form.{Way, number, list, record-of, shape, places-of, no
 use Rattle.taking.specs.declared.progress.Progress.{Progress}
 use Rattle.taking.specs.declared.progress.Progress.the-variants.{Dead}
 use Rattle.taking.specs.Masks.{test}
-use Rattle.taking.specs.Seen.{Behind, Goes-on}
+use Rattle.taking.specs.Advance.{Behind, Goes-on}
 use Rattle.taking.specs.Takes.{Found, at, nowhere, find, none-must, record-takes}
 
 -- a way that is a record, and one that is none

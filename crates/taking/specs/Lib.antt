@@ -2,6 +2,6 @@ pub mod Takes
 pub mod Within
 pub mod Masks
 pub mod Groups
-pub mod Seen
+pub mod Advance
 pub mod Answers
 pub mod Sorted

@@ -7,7 +7,7 @@ ghost use Rattle.forms.specs.Form.{ways-at, way-at, places-of};
 ghost use Rattle.forms.specs.View.{form-of};
 ghost use Rattle.taking.specs.declared.progress.Progress.the-variants.{At};
 ghost use Rattle.taking.specs.Groups.{Group-there, listed-places};
-ghost use Rattle.taking.specs.Seen.{progress-at, ends-well, Behind, Goes-on, Advances};
+ghost use Rattle.taking.specs.Advance.{progress-at, ends-well, Behind, Goes-on, Advances};
 ghost use Rattle.taking.specs.Takes.{find, record-takes};
 use crate::group::Group;
 use crate::group::WAYS;

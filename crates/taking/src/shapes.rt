@@ -2,7 +2,7 @@
 ghost use Prim.Native.Nat.{_<_};
 ghost use Rattle.forms.specs.Form.{way-at};
 ghost use Rattle.taking.specs.Masks.{test};
-ghost use Rattle.taking.specs.Seen.{progress-at, ends-well};
+ghost use Rattle.taking.specs.Advance.{progress-at, ends-well};
 ghost use Rattle.taking.specs.Takes.{number-takes, list-takes, record-takes};
 use crate::fields::ends_well;
 use crate::mask::holds;

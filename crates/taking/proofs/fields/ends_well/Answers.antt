@@ -3,7 +3,7 @@ use mathlib.Core.Path.{_≡_, sym, ap, _∙_}
 use native.Mathlib.Omega.{arith}
 use Rattle.forms.specs.Form.{way-at, places-of}
 use Rattle.forms.specs.View.{form-of}
-use Rattle.taking.specs.Seen.{ends-well}
+use Rattle.taking.specs.Advance.{ends-well}
 use Rattle.taking.specs.Takes.{record-takes}
 use Rattle.taking.proofs.Places.{record-way, none-must-passes, none-must-stops, none-must-ends}
 use Rattle.taking.proofs.fields.ends_well.Needs as need
