@@ -49,18 +49,21 @@ write("c.bin", form([load, record((PARCELS, 1, MUST), (GOODS, 2, MUST), (LICENCE
 # The old form with kind 2 a list of up to 17, which is one too many: no form.
 write("damaged.bin", form([load], [count], [list_of(3, 0, 17)], [item]))
 
-papers = [
-    [2, 2, 1, 0, 0, 2, 1, 0],  # {1: 0, 2: []}
-    [2, 2, 1, 0, 0, 1, 1, 0],  # a name twice
+taken = [2, 2, 1, 0, 0, 2, 1, 0]  # {1: 0, 2: []}
+not_taken = [
+    [2, 2, 1, 0, 100, 2, 1, 0],  # {1: 100, 2: []}: too many parcels
+    [2, 2, 1, 0, 0, 2, 1, 4] + [2, 1, 1, 0, 5] * 4,  # {1: 0, 2: [{1: 5}, {1: 5}, {1: 5}, {1: 5}]}: too many goods
+    [2, 1, 1, 0, 0],  # {1: 0}: no goods
+    [2, 3, 1, 0, 0, 2, 1, 0, 4, 0, 0],  # {1: 0, 2: [], 4: 0}: an unknown name
 ]
-deep = [1, 1] * 256 + [0, 5]  # 257 deep
+deeper = [2, 3, 1, 0, 2, 2, 1, 2] + [2, 1, 1, 0, 5] + [2, 1, 1, 0, 99] + [3, 0, 42]  # {1: 2, 2: [{1: 5}, {1: 99}], 3: 42}
 damaged = [
     [],  # nothing at all
     [3],  # an unknown start
     [0],  # cut short
-    papers[1],
+    [2, 2, 1, 0, 0, 1, 1, 0],  # a name twice
     [0, 7, 0],  # something behind the paper
-    deep,
+    [1, 1] * 256 + [0, 5],  # 257 deep
 ]
 
 
@@ -68,5 +71,4 @@ def stream(rows):
     return [n for row in rows for n in [len(row)] + row]
 
 
-write("papers.bin", stream(papers[:1] + damaged))
-write("damaged_papers.bin", stream(damaged))
+write("papers.bin", stream([taken] + not_taken + [deeper] + damaged + [taken]))

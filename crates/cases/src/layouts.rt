@@ -1,4 +1,5 @@
 // Forms at the bounds, each way in which a row is none, and the order of the refusals.
+use crate::making::TOP;
 use forms::FormView;
 use forms::Room;
 use forms::Side;
@@ -8,8 +9,6 @@ use forms::one_form;
 use forms::side_of;
 use forms::two_forms;
 use std::test::*;
-
-const TOP: u64 = 4294967295;
 
 // Four kinds; the first may be a number, a list or a record of four places, each at its bounds.
 const FULL: [(usize, u64); 15] = [

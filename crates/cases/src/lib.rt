@@ -3,4 +3,8 @@
 #[cfg(test)]
 mod layouts;
 #[cfg(test)]
+mod making;
+#[cfg(test)]
 mod rows;
+#[cfg(test)]
+mod takings;

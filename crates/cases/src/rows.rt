@@ -1,4 +1,5 @@
 // Rows that are papers, and rows that are none with the number and place told.
+use crate::making::too_deep;
 use papers::DEEPEST;
 use papers::Refusal;
 use papers::Why;
@@ -72,16 +73,12 @@ fn damaged() -> Result<(), Fail> {
     )
 }
 
-// 255 lists of one and a number are 256 deep; one list more is too deep.
 #[test]
 fn depth() -> Result<(), Fail> {
-    let mut row = [1u64; 514];
-    row[512] = 0;
-    let mut flatter = row;
-    flatter[510] = 0;
+    let row = too_deep();
     let mut unknown = row;
     unknown[512] = 3;
-    are_deep(&[(&flatter[0..512], DEEPEST)])?;
+    are_deep(&[(&row[2..514], DEEPEST)])?;
     // At the level that is too deep a paper begins, or the row ends, or no paper could begin.
     are_refused(&[(&row, 6, 512), (&row[0..512], 5, 512), (&unknown, 5, 512)])
 }

@@ -19,7 +19,7 @@ use Rattle.papers.specs.Paper.{Paper, well, deep}
 use Rattle.papers.specs.Row.{row-of, fits}
 use Rattle.papers.specs.Reading.{Outcome, done, fault, into, alone, read-paper, read-row, deepest}
 use Rattle.papers.specs.Refusals.{number-of, place-of}
-use Rattle.papers.specs.Telling.{Told, Front-told, number-for, Refuses, Turned-away, Row-told}
+use Rattle.papers.specs.Telling.{Told, Stands, Front-told, number-for, Refuses, Turned-away}
 use Rattle.papers.specs.Laws.{Round-trip, Only-written, Row-injective, Prefix-free}
 use Rattle.papers.proofs.Outcomes.{into-done, into-fault}
 use Rattle.papers.proofs.Encoding.{Comes, paper-comes}
@@ -32,7 +32,7 @@ comes-fault : {A : Type 0} (n : ℕ) (o : Outcome A) (a : A) (rest : List ℕ) (
 comes-fault n o a rest depth w left (inl h) e = let p = h .0 in let z : _≡_ {A = ℕ} 0 1 = cc in absurd (omega arith)
 comes-fault n o a rest depth w left (inr h) e = let p = h .1 in ((cc), h .2)
 
-front-answer : (n : ℕ) (xs : List ℕ) (r : Result Part Fault) → Told (into deep (read-paper n xs)) r → Front-told n xs r
+front-answer : (n : ℕ) (xs : List ℕ) (r : Result (Part ℕ) Fault) → Told (into deep (read-paper n xs)) r → Front-told n xs r
 front-answer n xs (Ok part) h =
     let p = into-done deep (read-paper n xs) (part .value) (part .rest .now) h in
     (p .0, paper-read n xs (p .0) (part .rest .now) (p .1), sym (p .2))
@@ -40,25 +40,28 @@ front-answer n xs (Err f) h =
     let e = into-fault deep (read-paper n xs) (f .why) (h .0) (h .1) in
     record { left = h .0; comes = e; left-is = h .2; only-deeper = λ d rest g s r. comes-fault n _ d rest (deep d) (f .why) (h .0) (paper-comes d n rest g s) (ap (read-paper n) (sym r) ∙ e) }
 
-pub front-told : (n m : ℕ) (xs : List ℕ) (r : Result Part Fault) → Told (into deep (read-paper m xs)) r → m ≡ n → Front-told n xs r
+pub front-told : (n m : ℕ) (xs : List ℕ) (r : Result (Part ℕ) Fault) → Told (into deep (read-paper m xs)) r → m ≡ n → Front-told n xs r
 front-told n m xs r h l = subst (λ k. Front-told k xs r) l (front-answer m xs r h)
 
 -- nothing behind a paper, or something
-pub whole-fails : (xs : List ℕ) (w : Why) (left : List ℕ) → into deep (read-paper deepest xs) ≡ fault w left → into deep (read-row xs) ≡ fault w left
-unfolding read-row
-whole-fails xs w left e = ap (λ o. into deep (alone o)) (into-fault deep (read-paper deepest xs) w left e)
+module _ {X : Type 0} (val : Paper → X) (xs : List ℕ) where
+  pub whole-fails : (w : Why) (left : List ℕ) → into val (read-paper deepest xs) ≡ fault w left → into val (read-row xs) ≡ fault w left
+  unfolding read-row
+  whole-fails w left e = ap (λ o. into val (alone o)) (into-fault val (read-paper deepest xs) w left e)
 
-pub whole-behind : (xs : List ℕ) (v : ℕ) (rest : List ℕ) → into deep (read-paper deepest xs) ≡ done v rest → 0 < length rest → into deep (read-row xs) ≡ fault NoPaper rest
-unfolding read-row
-whole-behind xs v [] e h = absurd (omega arith)
-whole-behind xs v (x ∷ rest) e h = ap (λ o. into deep (alone o)) (into-done deep (read-paper deepest xs) v (x ∷ rest) e .1)
+  pub whole-behind : (v : X) (rest : List ℕ) → into val (read-paper deepest xs) ≡ done v rest → 0 < length rest →
+      into val (read-row xs) ≡ fault NoPaper rest
+  unfolding read-row
+  whole-behind v [] e h = absurd (omega arith)
+  whole-behind v (x ∷ rest) e h = ap (λ o. into val (alone o)) (into-done val (read-paper deepest xs) v (x ∷ rest) e .1)
 
-pub whole-alone : (xs : List ℕ) (v : ℕ) (rest : List ℕ) → into deep (read-paper deepest xs) ≡ done v rest → length rest < 1 → into deep (read-row xs) ≡ done v rest
-unfolding read-row
-whole-alone xs v [] e h =
-    let p = into-done deep (read-paper deepest xs) v [] e in
-    ap (λ o. into deep (alone o)) (p .1) ∙ ap (λ i. done i []) (p .2)
-whole-alone xs v (x ∷ rest) e h = absurd (omega arith)
+  pub whole-alone : (v : X) (rest : List ℕ) → into val (read-paper deepest xs) ≡ done v rest → length rest < 1 →
+      into val (read-row xs) ≡ done v rest
+  unfolding read-row
+  whole-alone v [] e h =
+      let p = into-done val (read-paper deepest xs) v [] e in
+      ap (λ o. into val (alone o)) (p .1) ∙ ap (λ i. done i []) (p .2)
+  whole-alone v (x ∷ rest) e h = absurd (omega arith)
 
 -- what a whole row is read as
 row-read : (xs : List ℕ) (d : Paper) (rest : List ℕ) → read-row xs ≡ done d rest → (read-paper deepest xs ≡ done d []) × (rest ≡ [])
@@ -133,9 +136,10 @@ alike xs ys e w left a num place same =
     let r : alone (read-paper deepest ys) ≡ fault w (p .0) = ap (λ l. alone (read-paper deepest l)) (p .1) ∙ ap alone (c .same (p .0) (q .1)) ∙ q .2 in
     subst (λ k. Refuses ys k e) (sym r) (num, at ∙ sym (place-is ys (c .front) (p .0) (p .1)))
 
-pub turned-away : (xs : List ℕ) (w : Why) (left : List ℕ) (k : ℕ) (e : Refusal) → into deep (read-row xs) ≡ fault w left → k ≡ length left → number-of e ≡ number-for w → place-of e ≡ length xs - k → Turned-away xs e
-turned-away xs w left k e h long num place =
-    let f = into-fault deep (read-row xs) w left h in
+pub turned-away : {X : Type 0} (val : Paper → X) (xs : List ℕ) (w : Why) (left : List ℕ) (k : ℕ) (e : Refusal) →
+    into val (read-row xs) ≡ fault w left → k ≡ length left → number-of e ≡ number-for w → place-of e ≡ length xs - k → Turned-away xs e
+turned-away val xs w left k e h long num place =
+    let f = into-fault val (read-row xs) w left h in
     let at : place-of e ≡ length xs - length left = place ∙ ap (λ i. length xs - i) long in
     record {
       told = subst (λ o. Refuses xs o e) (sym f) (num, at);
@@ -143,7 +147,9 @@ turned-away xs w left k e h long num place =
       no-further = λ ys same. alike xs ys e w left f num at same;
     }
 
-pub row-told : (xs : List ℕ) (v : ℕ) (rest : List ℕ) → into deep (read-row xs) ≡ done v rest → Row-told xs (Ok v)
-row-told xs v rest h =
-    let p = into-done deep (read-row xs) v rest h in
+-- the paper that a whole row is
+pub row-stands : {X : Type 0} (val : Paper → X) (xs : List ℕ) (v : X) (rest : List ℕ) → into val (read-row xs) ≡ done v rest →
+    (d : Paper) × Stands deepest xs d [] × (v ≡ val d)
+row-stands val xs v rest h =
+    let p = into-done val (read-row xs) v rest h in
     (p .0, paper-read deepest xs (p .0) [] (row-read xs (p .0) rest (p .1) .0), sym (p .2))

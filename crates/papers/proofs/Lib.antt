@@ -4,4 +4,6 @@ pub mod Standing
 pub mod Causal
 pub mod Fronts
 pub mod Steps
+pub mod Loops
+pub mod Depths
 pub mod Answering

@@ -1,12 +1,13 @@
 -- What the readers answer. Assumes nothing: these are definitions.
 use mathlib.Core.Path.{_≡_}
 use mathlib.Core.Bool.{true}
-use mathlib.Core.List.{List, [], _++_}
-use Prim.Native.Nat.{ℕ, _+_, _-_, _≤_, _<_}
+use mathlib.Core.List.{List, [], _∷_, _++_}
+use Prim.Native.Nat.{ℕ, suc, _+_, _-_, _≤_, _<_}
 use lib.ListN.{length, take}
 use Rattle.std.specs.declared.result.Result.{Result}
 use Rattle.std.specs.declared.result.Result.the-variants.{Ok, Err}
 use Rattle.papers.specs.declared.reading.Fault.{Fault}
+use Rattle.papers.specs.declared.reading.Opening.{Opening}
 use Rattle.papers.specs.declared.reading.Part.{Part}
 use Rattle.papers.specs.declared.reading.Start.{Start}
 use Rattle.papers.specs.declared.reading.Start.the-variants.{Number, List as List-start, Record}
@@ -24,10 +25,15 @@ start-number Number = 0
 start-number List-start = 1
 start-number Record = 2
 
--- an answer that says what a reading came to: the number and the rest, or why not and how much was left there
-abbrev pub Told : Outcome ℕ → Result Part Fault → Type 0
+-- an answer that says what a reading came to: what was read and the rest, or why not and how much was left there
+abbrev pub Told : {X : Type 0} → Outcome X → Result (Part X) Fault → Type 0
 Told o (Ok part) = o ≡ done (part .value) (part .rest .now)
 Told o (Err f) = (left : List ℕ) × (o ≡ fault (f .why) left) × (f .left ≡ length left)
+
+-- how a paper at most n deep begins, or that its reading fails at the start
+abbrev pub Opened : ℕ → List ℕ → Result Opening Fault → Type 0
+Opened n xs (Ok o) = (n ≡ suc (o .below)) × (xs ≡ start-number (o .start) ∷ o .rest .now)
+Opened n xs (Err f) = (left : List ℕ) × (read-paper n xs ≡ fault (f .why) left) × (f .left ≡ length left)
 
 -- a well made paper that fits, at most n deep, stands at the front of a row, and the rest behind it
 pub record Stands (n : ℕ) (xs : List ℕ) (d : Paper) (rest : List ℕ) : Type 0 where
@@ -44,7 +50,7 @@ pub record Fails (n : ℕ) (xs : List ℕ) (f : Fault) : Type 0 where
   pub only-deeper : (d : Paper) (rest : List ℕ) → well d ≡ true → fits d ≡ true → xs ≡ row-of d ++ rest → (f .why ≡ Deeper) × (n < deep d)
 
 -- the answer to the reading of a paper at the front of a row
-abbrev pub Front-told : ℕ → List ℕ → Result Part Fault → Type 0
+abbrev pub Front-told : ℕ → List ℕ → Result (Part ℕ) Fault → Type 0
 Front-told n xs (Ok part) = (d : Paper) × Stands n xs d (part .rest .now) × (part .value ≡ deep d)
 Front-told n xs (Err f) = Fails n xs f
 

@@ -29,14 +29,14 @@ impl Fault {
 }
 
 // A paper at the front of a row, at most `levels` deep: how deep it is, and the rest of the row.
-pub fn read_front(row: &[u64], levels: u64) -> Result<Part<'_>, Fault>
+pub fn read_front(row: &[u64], levels: u64) -> Result<Part<'_, u64>, Fault>
     ensures { λ r. ⌜ Front-told levels (now (row .entry)) r ⌝ }
 {
     read_paper(row, levels)
 }
 
 // A paper with nothing behind it.
-fn read_whole(row: &[u64]) -> Result<Part<'_>, Fault>
+fn read_whole(row: &[u64]) -> Result<Part<'_, u64>, Fault>
     ensures { λ r. ⌜ Told (into deep (read-row (now (row .entry)))) r ⌝ }
 {
     let paper = read_paper(row, DEEPEST)?;

@@ -15,6 +15,11 @@ pub use entry::read_front;
 pub use reading::Fault;
 pub use reading::Part;
 pub use reading::Why;
+// The steps of a reading, for a crate that makes something else of a paper than its depth.
+pub use reading::Opening;
+pub use reading::Start;
+pub use reading::number_from;
+pub use reading::open_paper;
 // What is turned away, for all the crates above.
 pub use refusal::Refusal;
 pub use refusal::RefusalDisplay;

@@ -7,7 +7,7 @@ ghost use Rattle.std.specs.Options.{Cases as BySome};
 ghost use Rattle.papers.specs.Paper.{deep, all-deep, fields-deep};
 ghost use Rattle.papers.specs.Reading.{into, number-from, read-list, read-record, read-paper};
 ghost use Rattle.papers.specs.Row.{limit};
-ghost use Rattle.papers.specs.Telling.{start-number, Told};
+ghost use Rattle.papers.specs.Telling.{start-number, Opened, Told};
 
 // Every number, name and count of a row is below this.
 const LIMIT: u64 = 0x1_0000_0000;
@@ -27,19 +27,27 @@ pub struct Fault {
     pub left: usize,
 }
 
-// What a reading gave: a number, or how deep a paper is; and the rest of the row.
+// What a reading gave: a number, or what it made of a paper; and the rest of the row.
 #[derive(Clone, Copy)]
-pub struct Part<'a> {
-    pub value: u64,
+pub struct Part<'a, T> {
+    pub value: T,
     pub rest: &'a [u64],
 }
 
 // How a paper begins.
 #[derive(Clone, Copy)]
-enum Start {
+pub enum Start {
     Number,
     List,
     Record,
+}
+
+// The start of a paper: how it begins, how deep the papers in it may be, and the rest of the row.
+#[derive(Clone, Copy)]
+pub struct Opening<'a> {
+    pub start: Start,
+    pub below: u64,
+    pub rest: &'a [u64],
 }
 
 // The start that a number stands for, if it does.
@@ -66,7 +74,7 @@ fn within(number: u64, low: u64) -> Option<u64>
 }
 
 // The next number, at least `low` and below the limit.
-fn number_from(row: &[u64], low: u64) -> Result<Part<'_>, Fault>
+pub fn number_from(row: &[u64], low: u64) -> Result<Part<'_, u64>, Fault>
     ensures { λ r. ⌜ Told (number-from low (now (row .entry))) r ⌝ }
 {
     let left = row.len();
@@ -85,9 +93,9 @@ fn number_from(row: &[u64], low: u64) -> Result<Part<'_>, Fault>
     Ok(Part { value, rest })
 }
 
-// A paper that is at most `levels` deep: its depth and the rest.
-pub(crate) fn read_paper(row: &[u64], levels: u64) -> Result<Part<'_>, Fault>
-    ensures { λ r. ⌜ Told (into deep (read-paper levels (now (row .entry)))) r ⌝ }
+// How a paper begins that is at most `levels` deep.
+pub fn open_paper(row: &[u64], levels: u64) -> Result<Opening<'_>, Fault>
+    ensures { λ r. ⌜ Opened levels (now (row .entry)) r ⌝ }
 {
     let left = row.len();
     let [first, rest @ ..] = row else {
@@ -108,23 +116,31 @@ pub(crate) fn read_paper(row: &[u64], levels: u64) -> Result<Part<'_>, Fault>
             left,
         });
     };
-    match start {
+    Ok(Opening { start, below, rest })
+}
+
+// A paper that is at most `levels` deep: its depth and the rest.
+pub(crate) fn read_paper(row: &[u64], levels: u64) -> Result<Part<'_, u64>, Fault>
+    ensures { λ r. ⌜ Told (into deep (read-paper levels (now (row .entry)))) r ⌝ }
+{
+    let opening = open_paper(row, levels)?;
+    match opening.start {
         Start::Number => {
-            let number = number_from(rest, 0)?;
+            let number = number_from(opening.rest, 0)?;
             Ok(Part {
                 value: 1,
                 rest: number.rest,
             })
         }
         Start::List => {
-            let papers = read_list(rest, below)?;
+            let papers = read_list(opening.rest, opening.below)?;
             Ok(Part {
                 value: papers.value + 1,
                 rest: papers.rest,
             })
         }
         Start::Record => {
-            let fields = read_record(rest, below)?;
+            let fields = read_record(opening.rest, opening.below)?;
             Ok(Part {
                 value: fields.value + 1,
                 rest: fields.rest,
@@ -134,7 +150,7 @@ pub(crate) fn read_paper(row: &[u64], levels: u64) -> Result<Part<'_>, Fault>
 }
 
 // The papers of a list behind its start, how many and each: the depth of the deepest, 0 if there is none, and the rest.
-fn read_list(row: &[u64], levels: u64) -> Result<Part<'_>, Fault>
+fn read_list(row: &[u64], levels: u64) -> Result<Part<'_, u64>, Fault>
     ensures { λ r. ⌜ Told (into all-deep (read-list (read-paper levels) (now (row .entry)))) r ⌝ }
 {
     let count = number_from(row, 0)?;
@@ -152,7 +168,7 @@ fn read_list(row: &[u64], levels: u64) -> Result<Part<'_>, Fault>
 }
 
 // The fields of a record behind its start, by rising name: the depth of the deepest, 0 if there is none, and the rest.
-fn read_record(row: &[u64], levels: u64) -> Result<Part<'_>, Fault>
+fn read_record(row: &[u64], levels: u64) -> Result<Part<'_, u64>, Fault>
     ensures { λ r. ⌜ Told (into fields-deep (read-record (read-paper levels) (now (row .entry)))) r ⌝ }
 {
     let count = number_from(row, 0)?;

@@ -1,10 +1,10 @@
 -- One number at a time from the front of the bytes, and one word more of a command. Assumes nothing.
 use mathlib.Core.Path.{_≡_, refl, sym, ap, subst, _∙_}
 use mathlib.Core.List.{List, [], _∷_, _++_, append-assoc, append-nil}
-use Prim.Native.Nat.{ℕ, _-_, _/_, _≤_, _<_}
+use Prim.Native.Nat.{ℕ, zero, suc, _+_, _-_, _*_, _/_, _≤_, _<_}
 use native.Mathlib.Omega.{arith}
-use lib.ListN.{length, getD, take, drop}
-use Rattle.std.proofs.shelf.Lists.{take-rest}
+use lib.ListN.{length, getD, set, take, drop}
+use Rattle.std.proofs.shelf.Lists.{take-rest, take-more, drop-more, set-at, length-take-le}
 use Rattle.std.specs.Vec.{Every}
 use Rattle.std.specs.declared.alloc.Global.{Global}
 use Rattle.std.specs.declared.string.String.{String}
@@ -12,7 +12,7 @@ use Rattle.std.proofs.Told.{every-snoc}
 use Rattle.programs.specs.Bytes.{four, numbers-in}
 use Rattle.programs.specs.Words.{No-option}
 
-first-number : (xs : List ℕ) → 4 ≤ length xs → numbers-in xs ≡ four (getD xs 0 0) (getD xs 1 0) (getD xs 2 0) (getD xs 3 0) ∷ numbers-in (take (length xs - 4) (drop 4 xs))
+pub first-number : (xs : List ℕ) → 4 ≤ length xs → numbers-in xs ≡ four (getD xs 0 0) (getD xs 1 0) (getD xs 2 0) (getD xs 3 0) ∷ numbers-in (take (length xs - 4) (drop 4 xs))
 unfolding numbers-in
 first-number [] h = absurd (omega arith)
 first-number (a ∷ []) h = absurd (omega arith)
@@ -49,3 +49,25 @@ no-more all whole xs h l = sym (append-nil all) ∙ ap (λ v. all ++ v) (sym (no
 -- one word more that is no option
 pub word-more : (all later : List (String Global)) (word : String Global) → later ≡ all ++ word ∷ [] → Every No-option all → No-option word → Every No-option later
 word-more all later word p h q = subst (Every No-option) (sym p) (every-snoc No-option all word h q)
+
+-- the number at an index is that of the four bytes there
+pub number-at : (xs : List ℕ) (i : ℕ) → 4 * i + 3 < length xs → getD (numbers-in xs) i 0 ≡ four (getD xs (4 * i) 0) (getD xs (4 * i + 1) 0) (getD xs (4 * i + 2) 0) (getD xs (4 * i + 3) 0)
+unfolding numbers-in
+number-at [] i h = absurd (omega arith)
+number-at (a ∷ []) i h = absurd (omega arith)
+number-at (a ∷ b ∷ []) i h = absurd (omega arith)
+number-at (a ∷ b ∷ c ∷ []) i h = absurd (omega arith)
+number-at (a ∷ b ∷ c ∷ d ∷ xs) zero h = refl
+number-at (a ∷ b ∷ c ∷ d ∷ xs) (suc i) h =
+    let e₀ : 4 * suc i ≡ suc (suc (suc (suc (4 * i)))) = omega arith in
+    let e₁ : 4 * suc i + 1 ≡ suc (suc (suc (suc (4 * i + 1)))) = omega arith in
+    let e₂ : 4 * suc i + 2 ≡ suc (suc (suc (suc (4 * i + 2)))) = omega arith in
+    let e₃ : 4 * suc i + 3 ≡ suc (suc (suc (suc (4 * i + 3)))) = omega arith in
+    rw (e₃, e₂, e₁, e₀) (number-at xs i (omega arith))
+
+-- one number more in the front of a row
+pub one-written : (all row now : List ℕ) (i n : ℕ) → now ≡ take i all ++ drop i row → i < length all → i < length row → n ≡ getD all i 0 → set now i n ≡ take (i + 1) all ++ drop (i + 1) row
+one-written all row now i n e la lr p =
+    let rest = drop (i + 1) row in
+    ap (λ l. set l i n) e ∙ ap (λ l. set (take i all ++ l) i n) (drop-more row i 0 lr) ∙ set-at (take i all) (getD row i 0) rest n i (length-take-le i all (omega arith)) ∙ ap (λ v. take i all ++ v ∷ rest) p
+    ∙ sym (append-assoc (take i all) (getD all i 0 ∷ []) rest) ∙ ap (λ l. l ++ rest) (sym (take-more all i 0 la))

@@ -1,7 +1,8 @@
 // Numbers as a file or a stream has them: four bytes each, the low byte first.
 ghost use mathlib.Core.Path.{_≡_};
-ghost use lib.ListN.{length};
-ghost use Prim.Native.Nat.{_/_};
+ghost use mathlib.Core.List.{_++_};
+ghost use lib.ListN.{length, take, drop};
+ghost use Prim.Native.Nat.{_/_, min};
 ghost use Rattle.std.specs.Of.Vec.{vec-items, vec-len};
 ghost use Rattle.std.specs.Vec.{made};
 ghost use Rattle.programs.specs.Bytes.{four, numbers-in};
@@ -20,6 +21,24 @@ pub fn numbers(heap: Global, bytes: &[u8]) -> Result<Vec<u64>, AllocError>
         rest = more;
     }
     Ok(all)
+}
+
+// Writes the numbers of these bytes to the front of a row, as many as it has room for, and says how many; the rest of the row
+// stays as it is.
+pub fn numbers_into(bytes: &[u8], row: &mut [u64]) -> usize
+    ensures count { λ r. ⌜ r ≡ min (length (now (bytes .entry)) / 4) (length (now (row .entry))) ⌝ }
+    ensures row { λ r. ⌜ now (row .exit) ≡ take r (numbers-in (now (bytes .entry))) ++ drop r (now (row .entry)) ⌝ }
+{
+    let count = row.len().min(bytes.len() / 4);
+    for i in 0..count {
+        row[i] = number(
+            bytes[4 * i],
+            bytes[4 * i + 1],
+            bytes[4 * i + 2],
+            bytes[4 * i + 3],
+        );
+    }
+    count
 }
 
 // One number, from its low byte to its high byte.

@@ -13,4 +13,5 @@ pub use line::Command;
 pub use line::parse;
 // Files and streams of numbers.
 pub use bytes::numbers;
+pub use bytes::numbers_into;
 pub use file::row_of;

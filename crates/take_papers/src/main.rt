@@ -1,22 +1,35 @@
 // Takes or refuses papers, one after the other, from standard input.
+ghost use mathlib.Core.Bool.{true};
+ghost use mathlib.Core.Path.{_≡_};
+ghost use Rattle.std.specs.Vec.{made};
+ghost use Rattle.taking.specs.Answers.{Exactly, Row-taken};
+ghost use Rattle.taking.specs.Sorted.{sorted-of};
+
+mod block;
+mod broken;
 mod stream;
 
+use broken::BrokenDisplay;
+use forms::FormView;
 use forms::Room;
 use forms::one_form;
 use papers::RefusalDisplay;
-use papers::read;
 use programs::finish;
 use programs::kind_of;
 use programs::parse;
 use programs::row_of;
+use std::alloc::Global;
 use std::env;
 use std::error::AnyError;
-use std::io::BufReader;
 use std::io::BufWriter;
 use std::io::Stdin;
 use std::io::Stdout;
 use std::io::Write;
-use stream::next_paper;
+use stream::MOST;
+use stream::Papers;
+use taking::SortedForm;
+use taking::Taking;
+use taking::take_as;
 
 const HELP: &str = "\
 take_papers FORM [K]
@@ -43,26 +56,47 @@ Options:
   --help        print this text
 ";
 
-// Answers every paper of the stream, and says whether all were taken.
+// Writes the answer to one paper, and says whether the form took it.
+fn answer(
+    form: &SortedForm<'_>,
+    kind: usize,
+    row: &[u64],
+    out: &mut BufWriter<Stdout>,
+) -> Result<bool, AnyError>
+    ensures { λ r. ⌜ made r (λ taken. Exactly (taken ≡ true) (Row-taken (sorted-of (now (form .entry))) (now (row .entry)) kind true)) ⌝ }
+{
+    match take_as(form, row, kind) {
+        Taking::Taken => {
+            out.write_all(b"taken\n")?;
+            Ok(true)
+        }
+        Taking::NotTaken => {
+            out.write_all(b"not taken\n")?;
+            Ok(false)
+        }
+        Taking::Refused(refusal) => {
+            writeln!(out, "{refusal}")?;
+            Ok(false)
+        }
+    }
+}
+
+// Answers every paper of the stream, and says whether the form took them all.
 fn answer_all(
-    rt: &LibcRuntime,
-    input: &mut BufReader<Stdin>,
+    heap: Global,
+    form: &SortedForm<'_>,
+    kind: usize,
+    papers: &mut Papers<Stdin>,
     out: &mut BufWriter<Stdout>,
 ) -> Result<bool, AnyError> {
-    let heap = rt.alloc();
+    let mut row = [0; MOST];
     let mut all_taken = true;
     for number in 1..u64::MAX {
-        let Some(row) = next_paper(heap, input, number)? else {
-            break;
-        };
-        let Err(refusal) = read(&row) else {
-            return Err(format!(
-                heap,
-                "paper {number}: taking a paper is not implemented yet"
-            )?.into());
-        };
-        all_taken = false;
-        writeln!(out, "{refusal}")?;
+        match papers.next_into(&mut row) {
+            Ok(Some(count)) => all_taken &= answer(form, kind, &row[0..count], out)?,
+            Ok(None) => break,
+            Err(broken) => return Err(format!(heap, "paper {number}: {broken}")?.into()),
+        }
     }
     Ok(all_taken)
 }
@@ -81,13 +115,17 @@ fn run(rt: &LibcRuntime) -> Result<bool, AnyError> {
     }
     let k = kind_of(heap, words.get(1), 0)?;
     let form = row_of(rt, words[0].as_str())?;
-    if let Err(refusal) = one_form(&form, Room::Plain, k) {
-        println!(rt, "{refusal}")?;
-        return Ok(!command.exit_code);
-    }
-    let mut input = BufReader::new(rt.stdin());
+    let kind = match one_form(&form, Room::Plain, k) {
+        Ok(kind) => kind,
+        Err(refusal) => {
+            println!(rt, "{refusal}")?;
+            return Ok(!command.exit_code);
+        }
+    };
+    let form = SortedForm::new(FormView::new(&form, Room::Plain));
+    let mut papers = Papers::new(rt.stdin());
     let mut out = BufWriter::new(rt.stdout());
-    let answered = answer_all(rt, &mut input, &mut out);
+    let answered = answer_all(heap, &form, kind, &mut papers, &mut out);
     // What was answered is written even where the stream then failed.
     out.flush()?;
     Ok(answered? || !command.exit_code)

@@ -1,66 +1,68 @@
-// A stream of papers: each is a count of numbers, and the numbers.
-ghost use lib.ListN.{length};
-ghost use Prim.Native.Nat.{_≤_};
-ghost use Rattle.std.specs.Of.Vec.{vec-len};
-ghost use Rattle.std.specs.Options.{Cases as BySome};
-ghost use Rattle.std.specs.Vec.{made};
-use programs::numbers;
-use std::alloc::Global;
-use std::error::AnyError;
-use std::io;
+// A stream of papers: each is a count of numbers, four bytes, and so many numbers.
+ghost use mathlib.Core.List.{[]};
+ghost use mathlib.Core.Path.{_≡_};
+ghost use Rattle.take_papers.specs.Coming.{Counted, Comes};
+ghost use Rattle.take_papers.specs.Held.{held};
+use crate::block::Block;
+use crate::broken::Broken;
+use crate::broken::BrokenFromError;
+use programs::numbers_into;
 use std::io::Read;
 
 // How many numbers a paper may have.
-const MOST: u64 = 1000;
+pub(crate) const MOST: usize = 1000;
 
-// Reads until the buffer is full or the input ends, and says how many bytes there were.
-fn fill<R: Read>(input: &mut R, buf: &mut [u8]) -> io::Result<usize>
-    ensures { λ r. ⌜ made r (λ n. n ≤ length (now (buf .entry))) ⌝ }
+// The papers of an input, and the bytes of it that are read ahead.
+#[derive(Drop)]
+pub(crate) struct Papers<R> {
+    input: R,
+    block: Block,
+}
+
+// How many numbers the paper has that begins these bytes, or none where there are no bytes.
+fn count_of(bytes: &[u8]) -> Result<Option<usize>, Broken>
+    ensures { λ r. ⌜ Counted (now (bytes .entry)) r ⌝ }
 {
-    let mut filled = 0;
-    while filled < buf.len() {
-        let more = input.read(&mut buf[filled..])?;
-        if more == 0 {
-            break;
+    match bytes {
+        [] => Ok(None),
+        [a, b, c, d, ..] => {
+            let count = u32::from_le_bytes([*a, *b, *c, *d]) as usize;
+            if count > MOST {
+                return Err(Broken::TooLong(count as u64));
+            }
+            Ok(Some(count))
         }
-        filled += more;
+        _ => Err(Broken::InLength),
     }
-    Ok(filled)
 }
 
-// How many numbers the next paper has, or none where the stream ends.
-fn next_count<R: Read>(heap: Global, input: &mut R, number: u64) -> Result<Option<u64>, AnyError>
-    ensures { λ r. ⌜ made r (λ count. BySome count (Unit {0}) (λ n. n ≤ 1000)) ⌝ }
-{
-    let mut bytes = [0u8; 4];
-    let read = fill(input, &mut bytes)?;
-    if read == 0 {
-        return Ok(None);
+impl<R: Read> Papers<R> {
+    // The papers of an input of which nothing is read yet.
+    pub(crate) fn new(input: R) -> Papers<R>
+        ensures { λ r. ⌜ held (r .block) ≡ [] ⌝ }
+    {
+        Papers {
+            input,
+            block: Block::new(),
+        }
     }
-    if read < 4 {
-        return Err(format!(heap, "paper {number}: the stream ends inside its length")?.into());
-    }
-    let count = u64::from(u32::from_le_bytes(bytes));
-    if count > MOST {
-        return Err(format!(heap, "paper {number}: {count} numbers are more than {MOST}")?.into());
-    }
-    Ok(Some(count))
-}
 
-// The next paper's numbers, or none where the stream ends.
-pub(crate) fn next_paper<R: Read>(
-    heap: Global,
-    input: &mut R,
-    number: u64,
-) -> Result<Option<Vec<u64>>, AnyError>
-    ensures { λ r. ⌜ made r (λ row. BySome row (Unit {0}) (λ numbers. vec-len numbers ≤ 1000)) ⌝ }
-{
-    let Some(count) = next_count(heap, input, number)? else {
-        return Ok(None);
-    };
-    let mut bytes = vec![in heap; 0u8; 4 * count as usize]?;
-    if fill(input, bytes.as_mut_slice())? < bytes.len() {
-        return Err(format!(heap, "paper {number}: the stream ends inside it")?.into());
+    // Writes the next paper's numbers to the front of the row, and says how many; or none where the stream ends.
+    pub(crate) fn next_into(&mut self, row: &mut [u64; MOST]) -> Result<Option<usize>, Broken>
+        ensures { λ r. ⌜ Comes (held (now (self .entry) .block)) (held (now (self .exit) .block)) (now (row .entry)) (now (row .exit)) r ⌝ }
+    {
+        self.block.fill(&mut self.input, 4)?;
+        let Some(count) = count_of(self.block.held())? else {
+            return Ok(None);
+        };
+        let size = 4 + 4 * count;
+        self.block.fill(&mut self.input, size)?;
+        let held = self.block.held();
+        if held.len() < size {
+            return Err(Broken::InPaper);
+        }
+        numbers_into(&held[4..size], row);
+        self.block.skip(size);
+        Ok(Some(count))
     }
-    Ok(Some(numbers(heap, &bytes)?))
 }

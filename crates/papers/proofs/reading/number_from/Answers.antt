@@ -8,7 +8,7 @@ pub returns-in-rest : need.returns-in-rest
 returns-in-rest c = (c .args .row .now, number-ends (c .args .low) (c .args .row .now) (search needs), refl)
 
 pub returns-in-rest-within : need.returns-in-rest-within
-returns-in-rest-within c = (c .args .row .now, number-wrong (c .args .low) (c .args .row .now) (search needs) (c .in-rest-within .ensures tt), refl)
+returns-in-rest-within c = (c .args .row .now, number-wrong (c .args .low) (c .args .row .now) (search needs) (search needs), refl)
 
 pub returns : need.returns
 returns c =

@@ -1,0 +1,13 @@
+pub mod Finding
+pub mod Covering
+pub mod Changing
+pub mod Moving
+pub mod Masks
+pub mod Below
+pub mod Places
+pub mod Rooms
+pub mod Groups
+pub mod Advancing
+pub mod Sights
+pub mod Folding
+pub mod Answering
