@@ -1,6 +1,6 @@
 -- The kinds that take a paper, made while the paper is read: of a number at once, of a list paper by paper, of a record field by field.
 use mathlib.Core.Path.{_≡_, refl, sym, ap, subst, _∙_}
-use mathlib.Core.Bool.{Bool, true, false, _&&_, _||_, and-assoc}
+use mathlib.Core.Bool.{Bool, true, false, _&&_, _||_, and-true, and-assoc}
 use mathlib.Core.List.{List, [], _∷_}
 use Prim.Native.Nat.{ℕ, suc, _+_, _-_, _^_, _≤_, _<_}
 use native.Mathlib.Omega.{arith}
@@ -150,12 +150,8 @@ pub list-over : (f : Form) (g : Group) (i s : ℕ) → Closed f → group-fits L
     list-last f i s no-items ≡ kinds-seen (list-sees i s f) g (length f)
 unfolding list-last list-taken both-take count takes
 list-over f g i s closed fits =
-    list-same f closed (i + 0) i (both-take f s no-items) (test s) (omega arith) (λ k l. at (test s k))
+    list-same f closed (i + 0) i (both-take f s no-items) (test s) (omega arith) (λ k l. and-true (test s k))
     ∙ kinds-any List-shape f g fits (list-takes i (test s)) (lists-only i (test s))
-  where
-    at : (b : Bool) → (b && true) ≡ b
-    at true = refl
-    at false = refl
 
 -- records: a way that has come so far takes the fields that are still to come
 pub left-take : Form → Fields → Progress → List Place → Bool

@@ -15,32 +15,37 @@ use Rattle.forms.proofs.Every.{every-at, every-from}
 use Rattle.taking.specs.declared.group.Group.{Group}
 use Rattle.taking.specs.declared.group.Shape.{Shape}
 use Rattle.taking.specs.declared.group.WayAt.{WayAt}
-use Rattle.taking.specs.Groups.{has-shape, entry, entry-there, stands-at, kept-way, kept-kind, group-fits, Group-there}
+use Rattle.taking.specs.Groups.{has-shape, entry, listed-way, entry-fits, stands-at, kept-way, kept-kind, group-fits, Group-there}
 use Rattle.taking.specs.Masks.{some-below}
 use Rattle.taking.proofs.Below.{below-some, below-found, below-suc, below-same}
 
 -- the parts of what a group keeps to
 fit-parts : (s : Shape) (f : Form) (g : Group) → group-fits s f g ≡ true →
-    (g .count ≤ 144) × (every (entry-there f (g .ways)) (g .count) ≡ true) × (every (kept-kind s f g) (length f) ≡ true)
+    (g .count ≤ 144) × (every (entry-fits s f (g .ways)) (g .count) ≡ true) × (every (kept-kind s f g) (length f) ≡ true)
 unfolding group-fits
 fit-parts s f g h =
-    let a = and-parts (leb (g .count) 144) (every (entry-there f (g .ways)) (g .count) && every (kept-kind s f g) (length f)) h in
-    let b = and-parts (every (entry-there f (g .ways)) (g .count)) (every (kept-kind s f g) (length f)) (a .1) in
+    let a = and-parts (leb (g .count) 144) (every (entry-fits s f (g .ways)) (g .count) && every (kept-kind s f g) (length f)) h in
+    let b = and-parts (every (entry-fits s f (g .ways)) (g .count)) (every (kept-kind s f g) (length f)) (a .1) in
     (leb-true (g .count) 144 (a .0), b .0, b .1)
 
-there-parts : (f : Form) (ws : List WayAt) (i : ℕ) → entry-there f ws i ≡ true →
-    (entry ws i .kind < length f) × (entry ws i .way < length (ways-at f (entry ws i .kind)))
-unfolding entry-there
-there-parts f ws i h =
+-- what an entry keeps to
+abbrev Listed : Shape → Form → WayAt → Type 0
+Listed s f a = (a .kind < length f) × (a .way < length (ways-at f (a .kind))) × (has-shape (shape (way-at f (a .kind) (a .way))) s ≡ true)
+
+there-parts : (s : Shape) (f : Form) (ws : List WayAt) (i : ℕ) → entry-fits s f ws i ≡ true → Listed s f (entry ws i)
+unfolding entry-fits
+there-parts s f ws i h =
     let a = entry ws i in
-    let p = and-parts (ltb (a .kind) (length f)) (ltb (a .way) (length (ways-at f (a .kind)))) h in
-    (ltb-true (a .kind) (length f) (p .0), ltb-true (a .way) (length (ways-at f (a .kind))) (p .1))
+    let within = ltb (a .way) (length (ways-at f (a .kind))) in
+    let p = and-parts (ltb (a .kind) (length f)) (within && has-shape (shape (listed-way f ws i)) s) h in
+    let q = and-parts within (has-shape (shape (listed-way f ws i)) s) (p .1) in
+    (ltb-true (a .kind) (length f) (p .0), ltb-true (a .way) (length (ways-at f (a .kind))) (q .0), q .1)
 
 pub group-there : (s : Shape) (f : Form) (g : Group) → group-fits s f g ≡ true → Group-there f g
 group-there s f g h =
     let p = fit-parts s f g h in
-    let at : (i : ℕ) → i < g .count → entry-there f (g .ways) i ≡ true = λ i l. every-at (entry-there f (g .ways)) (g .count) i (p .1) l in
-    record { few = p .0; kind = λ i l. there-parts f (g .ways) i (at i l) .0; way = λ i l. there-parts f (g .ways) i (at i l) .1 }
+    let at : (i : ℕ) → i < g .count → entry-fits s f (g .ways) i ≡ true = λ i l. every-at (entry-fits s f (g .ways)) (g .count) i (p .1) l in
+    record { few = p .0; kind = λ i l. there-parts s f (g .ways) i (at i l) .0; way = λ i l. there-parts s f (g .ways) i (at i l) .1 }
 
 -- every way of the shape is listed
 stands : (ws : List WayAt) (k w i : ℕ) → stands-at ws k w i ≡ true → (entry ws i .kind ≡ k) × (entry ws i .way ≡ w)
@@ -76,7 +81,7 @@ Before i j k w = (k < i) ⊎ ((k ≡ i) × (w < j))
 pub record Grouped (s : Shape) (f : Form) (i j count : ℕ) (ws : List WayAt) : Type 0 where
   pub sized : length ws ≡ 144
   pub few : count ≤ 9 * i + j
-  pub there : (n : ℕ) → n < count → (entry ws n .kind < length f) × (entry ws n .way < length (ways-at f (entry ws n .kind)))
+  pub there : (n : ℕ) → n < count → Listed s f (entry ws n)
   pub all : (k w : ℕ) → Before i j k w → w < length (ways-at f k) → has-shape (shape (way-at f k w)) s ≡ true → some-below (stands-at ws k w) count ≡ true
 
 pub grouped-none : (s : Shape) (f : Form) (count : ℕ) (ws : List WayAt) → count ≡ 0 → length ws ≡ 144 → Grouped s f 0 0 count ws
@@ -113,18 +118,18 @@ still-listed ws k w n a i l =
 
 -- the next way has the shape, and is listed
 pub grouped-push : (s : Shape) (f : Form) (i j count : ℕ) (ws : List WayAt) (more : ℕ) (new : List WayAt) → Grouped s f i j count ws →
-    more ≡ count + 1 → new ≡ set ws count (record { kind = i; way = j }) → i < length f → j < length (ways-at f i) → count < 144 →
-    Grouped s f i (j + 1) more new
+    more ≡ count + 1 → new ≡ set ws count (record { kind = i; way = j }) → i < length f → j < length (ways-at f i) →
+    has-shape (shape (way-at f i j)) s ≡ true → count < 144 → Grouped s f i (j + 1) more new
 unfolding stands-at
-grouped-push s f i j count ws more new h e z l m room =
+grouped-push s f i j count ws more new h e z l m shaped room =
     subst (λ c. Grouped s f i (j + 1) c new) (sym e) (subst (Grouped s f i (j + 1) (count + 1)) (sym z) (record {
       sized = length-set ws count here ∙ h .sized;
       few = omega (arith, h .few);
       there = λ n b. elim (cases-lt n count) [
-        | inl c ↦ subst There (sym (getD-set-other ws count n here nowhere (omega arith))) (h .there n c)
+        | inl c ↦ subst (Listed s f) (sym (getD-set-other ws count n here nowhere (omega arith))) (h .there n c)
         | inr c ↦
             let last : n ≡ count = omega arith in
-            subst There (ap (λ q. entry listed q) (sym last)) (subst There (sym at-end) (l, m))
+            subst (Listed s f) (ap (λ q. entry listed q) (sym last)) (subst (Listed s f) (sym at-end) (l, m, shaped))
       ];
       all = λ k w b c d. elim (before k w b) [
         | inl q ↦
@@ -146,9 +151,6 @@ grouped-push s f i j count ws more new h e z l m room =
 
     listed : List WayAt
     listed = set ws count here
-
-    There : WayAt → Type 0
-    There x = (x .kind < length f) × (x .way < length (ways-at f (x .kind)))
 
     at-end : entry listed count ≡ here
     at-end = getD-set-same ws count here nowhere (omega (arith, h .sized))
@@ -185,16 +187,18 @@ kept s f i g h e k l =
       | inr n ↦ or-left (not (has-shape (shape (way-at f k w)) s)) (some-below (stands-at (g .ways) k w) (g .count)) (not-from-false (has-shape (shape (way-at f k w)) s) n)
     ]
 
-listed-there : (s : Shape) (f : Form) (i : ℕ) (g : Group) → Grouped s f i 0 (g .count) (g .ways) → (n : ℕ) → n < g .count → entry-there f (g .ways) n ≡ true
-unfolding entry-there
+listed-there : (s : Shape) (f : Form) (i : ℕ) (g : Group) → Grouped s f i 0 (g .count) (g .ways) → (n : ℕ) → n < g .count → entry-fits s f (g .ways) n ≡ true
+unfolding entry-fits
 listed-there s f i g h n l =
     let p = h .there n l in
     let a = entry (g .ways) n in
-    and-from (ltb (a .kind) (length f)) (ltb (a .way) (length (ways-at f (a .kind)))) (lt-ltb (a .kind) (length f) (p .0)) (lt-ltb (a .way) (length (ways-at f (a .kind))) (p .1))
+    let within = ltb (a .way) (length (ways-at f (a .kind))) in
+    and-from (ltb (a .kind) (length f)) (within && has-shape (shape (listed-way f (g .ways) n)) s) (lt-ltb (a .kind) (length f) (p .0))
+    (and-from within (has-shape (shape (listed-way f (g .ways) n)) s) (lt-ltb (a .way) (length (ways-at f (a .kind))) (p .1)) (p .2))
 
 pub grouped-all : (s : Shape) (f : Form) (i : ℕ) (g : Group) → Grouped s f i 0 (g .count) (g .ways) → i ≡ length f → length f ≤ 16 → group-fits s f g ≡ true
 unfolding group-fits
 grouped-all s f i g h e few =
-    and-from (leb (g .count) 144) (every (entry-there f (g .ways)) (g .count) && every (kept-kind s f g) (length f)) (le-leb (g .count) 144 (omega (arith, h .few)))
-    (and-from (every (entry-there f (g .ways)) (g .count)) (every (kept-kind s f g) (length f))
-    (every-from (entry-there f (g .ways)) (g .count) (listed-there s f i g h)) (every-from (kept-kind s f g) (length f) (kept s f i g h e)))
+    and-from (leb (g .count) 144) (every (entry-fits s f (g .ways)) (g .count) && every (kept-kind s f g) (length f)) (le-leb (g .count) 144 (omega (arith, h .few)))
+    (and-from (every (entry-fits s f (g .ways)) (g .count)) (every (kept-kind s f g) (length f))
+    (every-from (entry-fits s f (g .ways)) (g .count) (listed-there s f i g h)) (every-from (kept-kind s f g) (length f) (kept s f i g h e)))

@@ -1,6 +1,6 @@
 -- The kinds of which a listed way sees. Assumes nothing.
-use mathlib.Core.Path.{_≡_, refl, sym, ap, _∙_}
-use mathlib.Core.Bool.{Bool, true, false, _&&_, _||_}
+use mathlib.Core.Path.{_≡_, sym, ap, _∙_}
+use mathlib.Core.Bool.{Bool, true, false, _&&_, _||_, and-true, and-false, or-false}
 use mathlib.Core.List.{List}
 use Prim.Native.Nat.{ℕ, _+_, _^_, _<_}
 use lib.Bits.{bitOr}
@@ -27,20 +27,11 @@ module _ (sees : ℕ → ℕ → ℕ → Bool) (ws : List WayAt) (n i : ℕ) whe
   way-sees l e =
       mask-or (kind-sees sees ws i) n (entry ws i .kind) l
       ∙ mask-same (λ k. kind-sees sees ws i k || eqb (entry ws i .kind) k) (kind-sees sees ws (i + 1)) n
-      (λ k b. ap (λ x. kind-sees sees ws i k || x) (sym (whole (eqb (entry ws i .kind) k))) ∙ sym (one-more true e k))
-    where
-      whole : (b : Bool) → (b && true) ≡ b
-      whole true = refl
-      whole false = refl
+      (λ k b. ap (λ x. kind-sees sees ws i k || x) (sym (and-true (eqb (entry ws i .kind) k))) ∙ sym (one-more true e k))
 
   pub way-blind : sees (entry ws i .kind) (entry ws i .way) i ≡ false → mask (kind-sees sees ws i) n ≡ mask (kind-sees sees ws (i + 1)) n
   way-blind e =
-      mask-same (kind-sees sees ws i) (kind-sees sees ws (i + 1)) n (λ k b. sym (one-more false e k ∙ none (kind-sees sees ws i k) (eqb (entry ws i .kind) k)))
-    where
-      none : (x y : Bool) → (x || (y && false)) ≡ x
-      none true y = refl
-      none false true = refl
-      none false false = refl
+      mask-same (kind-sees sees ws i) (kind-sees sees ws (i + 1)) n (λ k b. sym (one-more false e k ∙ ap (λ x. kind-sees sees ws i k || x) (and-false (eqb (entry ws i .kind) k)) ∙ or-false (kind-sees sees ws i k)))
 
 -- ways that see the same
 pub seen-same : (sees sees′ : ℕ → ℕ → ℕ → Bool) (g : Group) (n : ℕ) →

@@ -38,9 +38,11 @@ listed-way f ws i = way-at f (entry ws i .kind) (entry ws i .way)
 abbrev pub listed-places : Form → List WayAt → ℕ → List Place
 listed-places f ws i = places-of (listed-way f ws i)
 
--- It is a way of the form.
-unfoldable pub entry-there : Form → List WayAt → ℕ → Bool
-entry-there f ws i = ltb (entry ws i .kind) (length f) && ltb (entry ws i .way) (length (ways-at f (entry ws i .kind)))
+-- It is a way of the form, and has the shape.
+unfoldable pub entry-fits : Shape → Form → List WayAt → ℕ → Bool
+entry-fits s f ws i =
+    ltb (entry ws i .kind) (length f)
+    && (ltb (entry ws i .way) (length (ways-at f (entry ws i .kind))) && has-shape (shape (listed-way f ws i)) s)
 
 -- It is way w of kind k.
 unfoldable pub stands-at : List WayAt → ℕ → ℕ → ℕ → Bool
@@ -53,9 +55,9 @@ kept-way s f g k w = not (has-shape (shape (way-at f k w)) s) || some-below (sta
 unfoldable pub kept-kind : Shape → Form → Group → ℕ → Bool
 kept-kind s f g k = every (kept-way s f g k) (length (ways-at f k))
 
--- A group has room, its entries are ways of the form, and all ways of the shape are among them.
+-- A group has room, its entries are ways of the form that have the shape, and all such ways are among them.
 unfoldable pub group-fits : Shape → Form → Group → Bool
-group-fits s f g = leb (g .count) 144 && (every (entry-there f (g .ways)) (g .count) && every (kept-kind s f g) (length f))
+group-fits s f g = leb (g .count) 144 && (every (entry-fits s f (g .ways)) (g .count) && every (kept-kind s f g) (length f))
 
 -- Some entry below n is a way of kind k that sees, where `sees k w i` says whether way w of kind k, as entry i, does.
 unfoldable pub sees-as : (ℕ → ℕ → ℕ → Bool) → List WayAt → ℕ → ℕ → Bool

@@ -15,6 +15,7 @@ use forms::FormView;
 use forms::Way;
 
 impl<'a> SortedForm<'a> {
+    // The form with its ways sorted: that each group has just the ways of its shape is in the type.
     pub fn new(form: FormView<'a>) -> SortedForm<'a>
         ensures { λ r. ⌜ r .form ≡ form .entry ⌝ }
     {
@@ -27,7 +28,7 @@ impl<'a> SortedForm<'a> {
     }
 }
 
-// All ways of a form that have this shape.
+// The ways of a form that have this shape, all of them and no others.
 fn group_of(form: FormView<'_>, shape: Shape) -> Group
     ensures { λ r. ⌜ group-fits shape (form-of (form .entry)) r ≡ true ⌝ }
 {

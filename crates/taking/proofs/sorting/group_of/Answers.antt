@@ -32,15 +32,16 @@ loop-way-again c =
     let ways = ways-few (c .args .form) (c .loop-kind .kind) (omega arith) in
     let few = c .loop-way .inv .few in
     let Next : Group → _ = λ g. Grouped (c .args .shape) f (c .loop-kind .kind) (c .loop-way .way + 1) (g .count) (g .ways) in
+    let shaped = ap (λ x. has-shape x (c .args .shape)) (sym (c .way .ensures .is)) in
     elim (c .if-has-shape .came) [
       | then-has-shape w ↦
           subst Next (sym (w .group-is))
           (grouped-push (c .args .shape) f (c .loop-kind .kind) (c .loop-way .way) (c .loop-way .group .count) (c .loop-way .group .ways) _ _ (c .loop-way .inv)
-          (w .push .ensures .count) (w .push .ensures .ways) (omega arith) (omega arith) (omega arith))
+          (w .push .ensures .count) (w .push .ensures .ways) (omega arith) (omega arith) (shaped ∙ sym (w .if-has-shape .ensures tt)) (omega arith))
       | else-has-shape w ↦
           subst Next (sym (w .group-is))
           (grouped-other (c .args .shape) f (c .loop-kind .kind) (c .loop-way .way) (c .loop-way .group .count) (c .loop-way .group .ways) (c .loop-way .inv)
-          (ap (λ x. has-shape x (c .args .shape)) (sym (c .way .ensures .is)) ∙ sym (w .if-has-shape .ensures tt)))
+          (shaped ∙ sym (w .if-has-shape .ensures tt)))
     ]
 
 pub loop-kind-again : need.loop-kind-again
