@@ -1,4 +1,5 @@
 // Examples of the other crates, run as tests: in a crate of their own, so that no other crate is proved a second time.
+#![tactic(auto)]
 
 #[cfg(test)]
 mod layouts;

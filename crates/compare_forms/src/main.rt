@@ -1,4 +1,6 @@
 // Compares two forms: whether the second takes every paper that the first takes.
+#![tactic(auto)]
+
 use anyhow::anyhow;
 use forms::{Side, side_of, two_forms};
 use programs::{finish, kind_of, parse, row_of};

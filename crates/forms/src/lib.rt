@@ -3,6 +3,7 @@
 // A form says for each of its kinds of paper in which ways such a paper may look: as a number in a range, as a list of papers
 // of one kind, or as a record with named places. It is lent as a row of numbers, and is never copied: a `FormView` is such a
 // row, once it is known to be a form.
+#![tactic(auto)]
 
 mod asked;
 mod blame;

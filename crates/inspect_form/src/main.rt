@@ -1,4 +1,6 @@
 // Prints a form in words.
+#![tactic(auto)]
+
 mod words;
 
 use anyhow::anyhow;

@@ -1,4 +1,5 @@
 // Which pairs of a kind of one form and a set of kinds of another have a paper, round by round.
+#![tactic(auto)]
 
 mod finding;
 mod laws;

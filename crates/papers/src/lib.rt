@@ -2,6 +2,7 @@
 //
 // A paper is a number, a list of papers, or a record of named papers, by rising name. As a row of numbers it is `0 n`,
 // `1 count papers..` or `2 count (name paper)..`, every number, name and count below 2^32.
+#![tactic(auto)]
 
 mod entry;
 mod laws;

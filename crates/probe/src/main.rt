@@ -1,4 +1,6 @@
 // A trial.
+#![tactic(auto)]
+
 use forms::{FormView, Room, two_forms};
 use pairs::{Node, counterexample};
 use programs::row_of;

@@ -1,4 +1,5 @@
 // What the programs share: command lines, and files of numbers.
+#![tactic(auto)]
 
 mod bytes;
 mod ending;

@@ -1,4 +1,6 @@
 // Takes or refuses papers, one after the other, from standard input.
+#![tactic(auto)]
+
 ghost use Rattle.std.specs.Prelude.{◌≡◌, true, IfOk};
 ghost use Rattle.taking.specs.Answers.{Exactly, RowTaken};
 ghost use Rattle.taking.specs.Sorted.{sorted_of};

@@ -1,4 +1,5 @@
 // Whether a form takes a paper, in one reading of the paper's row.
+#![tactic(auto)]
 
 mod entry;
 mod fields;
