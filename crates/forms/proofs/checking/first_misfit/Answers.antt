@@ -7,8 +7,8 @@ use Rattle.forms.proofs.checking.first_misfit.Goals as goal
 pub loop-kind-init : goal.loop-kind-init
 loop-kind-init c = every_none _
 
-pub returns-then-not-kind-fits : goal.returns-then-not-kind-fits
-returns-then-not-kind-fits c =
+pub returns-then-not-kind_fits : goal.returns-then-not-kind_fits
+returns-then-not-kind_fits c =
     let here = first_failing_here (kind_fits c.args.room c.args.row.now) (kinds_count c.args.row.now) c.loop-kind.kind c.loop-kind.invariant (cc) (omega arith) in
     cc here
 
@@ -17,5 +17,5 @@ loop-kind-preserved c = every_more _ _ c.loop-kind.invariant (cc)
 
 pub returns : goal.returns
 returns c =
-    let e : c.loop-kind.kind ≡ c.kinds-count-kinds.result = omega arith in
+    let e : c.loop-kind.kind ≡ c.kinds_count-kinds.result = omega arith in
     cc (first_failing_none (kind_fits c.args.room c.args.row.now) c.loop-kind.kind c.loop-kind.invariant)

@@ -5,12 +5,12 @@ use Rattle.forms.specs.Layout.{kinds_count}
 use Rattle.forms.proofs.Every.{every_by_first}
 use Rattle.forms.proofs.checking.is_form.Goals as goal
 
-pub returns-then-count-fits : goal.returns-then-count-fits
+pub returns-then-count_fits : goal.returns-then-count_fits
 unfolding form_fits
-returns-then-count-fits c =
+returns-then-count_fits c =
     let h = every_by_first (kind_fits c.args.room c.args.row.now) (kinds_count c.args.row.now) in
     grind (arith, nat_tests)
 
-pub returns-else-count-fits : goal.returns-else-count-fits
+pub returns-else-count_fits : goal.returns-else-count_fits
 unfolding form_fits
-returns-else-count-fits c = grind (arith, nat_tests)
+returns-else-count_fits c = grind (arith, nat_tests)

@@ -4,9 +4,9 @@ use Rattle.forms.specs.Fits.{place_fits}
 use Rattle.forms.specs.Layout.{place_in}
 use Rattle.forms.proofs.checking.place_fits.Goals as goal
 
-pub returns-then-mark-at-gt1 : goal.returns-then-mark-at-gt1
+pub returns-then-mark_at-gt1 : goal.returns-then-mark_at-gt1
 unfolding place_in place_fits
-returns-then-mark-at-gt1 c = grind (arith, nat_tests)
+returns-then-mark_at-gt1 c = grind (arith, nat_tests)
 
 pub returns-then-place-lt-LIMIT : goal.returns-then-place-lt-LIMIT
 unfolding place_in place_fits

@@ -5,12 +5,12 @@ use Rattle.forms.specs.Layout.{way_from}
 use Rattle.forms.proofs.Parts.{places_of_shape}
 use Rattle.forms.proofs.checking.way_fits.Goals as goal
 
-pub returns-then-within-limits : goal.returns-then-within-limits
+pub returns-then-within_limits : goal.returns-then-within_limits
 unfolding way_fits
-returns-then-within-limits c =
+returns-then-within_limits c =
     let p = places_of_shape (way_from c.args.row.now c.args.at) in
     grind (arith, nat_tests)
 
-pub returns-else-within-limits : goal.returns-else-within-limits
+pub returns-else-within_limits : goal.returns-else-within_limits
 unfolding way_fits
-returns-else-within-limits c = grind (arith, nat_tests)
+returns-else-within_limits c = grind (arith, nat_tests)

@@ -6,9 +6,9 @@ use Rattle.forms.proofs.checking.ways_fit.Goals as goal
 pub loop-way-init : goal.loop-way-init
 loop-way-init c = every_none _
 
-pub returns-then-not-way-fits : goal.returns-then-not-way-fits
+pub returns-then-not-way_fits : goal.returns-then-not-way_fits
 unfolding way_fits_in
-returns-then-not-way-fits c = sym (every_off _ _ c.loop-way.way c.loop-way-test.true (cc))
+returns-then-not-way_fits c = sym (every_off _ _ c.loop-way.way c.loop-way-test.true (cc))
 
 pub loop-way-preserved : goal.loop-way-preserved
 unfolding way_fits_in

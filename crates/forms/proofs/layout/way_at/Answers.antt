@@ -11,8 +11,8 @@ pub returns-in-1 : goal.returns-in-1
 unfolding way_by
 returns-in-1 c = rw c.in-1.is
 
-pub returns-in-default : goal.returns-in-default
-returns-in-default c =
+pub returns-in_default : goal.returns-in_default
+returns-in_default c =
     let t = get_or c.args.row.now c.args.way 0 in
     let h : 1 < t = omega arith in
     shape_of_rest t c.args.row.now c.args.way h

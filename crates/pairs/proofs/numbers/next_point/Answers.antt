@@ -7,8 +7,8 @@ loop-kind-init c = ?
 pub loop-way-init : goal.loop-way-init
 loop-way-init c = ?
 
-pub next-change-next-requires : goal.next-change-next-requires
-next-change-next-requires c = ?
+pub next_change-next-requires : goal.next_change-next-requires
+next_change-next-requires c = ?
 
 pub loop-way-preserved : goal.loop-way-preserved
 loop-way-preserved c = ?

@@ -6,8 +6,8 @@ pub loop-n-init : goal.loop-n-init
 loop-n-init c = ?
 
 -- src/numbers.rt:84:12
-pub try-number-requires : goal.try-number-requires
-try-number-requires c = ?
+pub try_number-requires : goal.try_number-requires
+try_number-requires c = ?
 
 -- src/numbers.rt:83:5
 pub loop-n-preserved : goal.loop-n-preserved

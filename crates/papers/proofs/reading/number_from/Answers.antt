@@ -2,11 +2,11 @@ use Rattle.std.proofs.Common.{refl, arith, rules}
 use Rattle.papers.proofs.Steps.{number_ends, number_wrong, number_right}
 use Rattle.papers.proofs.reading.number_from.Goals as goal
 
-pub returns-in-default : goal.returns-in-default
-returns-in-default c = (c.args.row.now, number_ends c.args.low c.args.row.now (search rules), refl)
+pub returns-in_default : goal.returns-in_default
+returns-in_default c = (c.args.row.now, number_ends c.args.low c.args.row.now (search rules), refl)
 
-pub returns-in-default-within : goal.returns-in-default-within
-returns-in-default-within c = (c.args.row.now, number_wrong c.args.low c.args.row.now (search rules) (search rules), refl)
+pub returns-in_default-within : goal.returns-in_default-within
+returns-in_default-within c = (c.args.row.now, number_wrong c.args.low c.args.row.now (search rules) (search rules), refl)
 
 pub returns : goal.returns
 returns c =

@@ -7,7 +7,7 @@ use Rattle.programs.proofs.bytes.numbers.Goals as goal
 pub loop-rest-preserved : goal.loop-rest-preserved
 loop-rest-preserved c =
     one_more (vec_items c.loop-rest.all) _ (numbers_in c.args.bytes.now) c.loop-rest.rest.now c.number.result c.loop-rest.invariant (search rules) (omega (arith, c.number.ensures))
-    (pushed (c.number.result ∷ []) refl c.in-ok-push.was c.push.ensures.items)
+    (pushed (c.number.result ∷ []) refl c.in_ok-push.was c.push.ensures.items)
 
 pub returns : goal.returns
 returns c =

@@ -4,4 +4,4 @@ use Rattle.programs.proofs.Steps.{word_more}
 use Rattle.programs.proofs.line.keep.Goals as goal
 
 pub returns : goal.returns
-returns c = word_more (vec_items c.args.words.now) _ c.args.word (pushed (c.args.word ∷ []) refl c.in-ok-push.was c.push.ensures.items) c.requires.others c.requires.this
+returns c = word_more (vec_items c.args.words.now) _ c.args.word (pushed (c.args.word ∷ []) refl c.in_ok-push.was c.push.ensures.items) c.requires.others c.requires.this

@@ -5,15 +5,15 @@ use Rattle.forms.specs.View.{form_of}
 use Rattle.taking.specs.Masks.{kinds_of}
 use Rattle.taking.proofs.entry.take_whole.Goals as goal
 
-pub returns-in-err-paper : goal.returns-in-err-paper
-returns-in-err-paper c =
-    let h = c.in-err-paper.ensures in
-    hands_on _ c.from-residual.result c.in-err-paper.field-0.0 c.from-residual.ensures.1
+pub returns-in_err-paper : goal.returns-in_err-paper
+returns-in_err-paper c =
+    let h = c.in_err-paper.ensures in
+    hands_on _ c.from_residual.result c.in_err-paper.field-0.0 c.from_residual.ensures.1
     (h.0, whole_fails (kinds_of (form_of c.args.form.now.form)) c.args.row.now _ h.0 h.1, h.2)
 
-pub returns-in-default : goal.returns-in-default
-returns-in-default c =
-    (c.in-ok-paper.paper.rest.now, whole_behind (kinds_of (form_of c.args.form.now.form)) c.args.row.now c.in-ok-paper.paper.value c.in-ok-paper.paper.rest.now c.in-ok-paper.ensures (search rules), refl)
+pub returns-in_default : goal.returns-in_default
+returns-in_default c =
+    (c.in_ok-paper.paper.rest.now, whole_behind (kinds_of (form_of c.args.form.now.form)) c.args.row.now c.in_ok-paper.paper.value c.in_ok-paper.paper.rest.now c.in_ok-paper.ensures (search rules), refl)
 
 pub returns : goal.returns
-returns c = whole_alone (kinds_of (form_of c.args.form.now.form)) c.args.row.now c.in-ok-paper.paper.value c.in-ok-paper.paper.rest.now c.in-ok-paper.ensures (search rules)
+returns c = whole_alone (kinds_of (form_of c.args.form.now.form)) c.args.row.now c.in_ok-paper.paper.value c.in_ok-paper.paper.rest.now c.in_ok-paper.ensures (search rules)

@@ -6,11 +6,11 @@ use Rattle.taking.proofs.Places.{no_places, find_here, find_stops, find_passes, 
 use Rattle.taking.proofs.Rooms.{kinds_few}
 use Rattle.taking.proofs.fields.go_on.Goals as goal
 
-pub returns-in-default : goal.returns-in-default
-returns-in-default c =
+pub returns-in_default : goal.returns-in_default
+returns-in_default c =
     let ps = places_of (way_at (form_of c.args.form) c.args.kind c.args.way) in
     dead c.args.kinds _ ps _
-    (ap (λ qs. find c.args.name (drop c.args.from qs)) (no_places (way_at (form_of c.args.form) c.args.kind c.args.way) c.way.result c.way.ensures.is c.in-default.not-Record)
+    (ap (λ qs. find c.args.name (drop c.args.from qs)) (no_places (way_at (form_of c.args.form) c.args.kind c.args.way) c.way.result c.way.ensures.is c.in_default.not-Record)
     ∙ find_ends c.args.name _ c.args.from (omega arith)) (cc)
 
 pub holds-requires : goal.holds-requires

@@ -20,11 +20,11 @@ loop-index-preserved g c =
     let sees = g.S.Seen.sees c.args.seen.now f in
     let ws = c.args.group.now.ways in
     let i = c.loop-index.index in
-    elim c.if-seen-by.branch [
+    elim c.if-seen_by.branch [
       | then-seen-by w ↦
           w.kinds-is ∙ w.with-kinds.ensures ∙ ap (λ m. bit_or m (2 ^ (entry ws i).kind)) c.loop-index.invariant
-          ∙ way_sees sees ws (length f) i (c.requires.kind i (omega arith)) (sym w.if-seen-by.ensures)
-      | else-seen-by w ↦ w.kinds-is ∙ c.loop-index.invariant ∙ way_blind sees ws (length f) i (sym w.if-seen-by.ensures)
+          ∙ way_sees sees ws (length f) i (c.requires.kind i (omega arith)) (sym w.if-seen_by.ensures)
+      | else-seen-by w ↦ w.kinds-is ∙ c.loop-index.invariant ∙ way_blind sees ws (length f) i (sym w.if-seen_by.ensures)
     ]
 
 pub returns : goal.returns

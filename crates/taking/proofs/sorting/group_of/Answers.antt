@@ -18,7 +18,7 @@ push-requires c =
     let ways = ways_few c.args.form c.loop-kind.kind (omega arith) in
     let here = c.ways-way-end.ensures.is in
     let few = c.loop-way.invariant.few in
-    record { room = omega arith; kind-small = omega arith; way-small = omega arith }
+    record { room = omega arith; kind_small = omega arith; way_small = omega arith }
 
 pub loop-way-preserved : goal.loop-way-preserved
 loop-way-preserved c =
@@ -30,15 +30,15 @@ loop-way-preserved c =
     let few = c.loop-way.invariant.few in
     let Next : Group → _ = λ g. Grouped c.args.shape f c.loop-kind.kind (c.loop-way.way + 1) g.count g.ways in
     let shaped = ap (λ x. has_shape x c.args.shape) (sym c.way.ensures.is) in
-    elim c.if-has-shape.branch [
+    elim c.if-has_shape.branch [
       | then-has-shape w ↦
           subst Next (sym w.group-is)
           (grouped_push c.args.shape f c.loop-kind.kind c.loop-way.way c.loop-way.group.count c.loop-way.group.ways _ _ c.loop-way.invariant
-          w.push.ensures.count w.push.ensures.ways (omega arith) (omega arith) (shaped ∙ sym w.if-has-shape.ensures) (omega arith))
+          w.push.ensures.count w.push.ensures.ways (omega arith) (omega arith) (shaped ∙ sym w.if-has_shape.ensures) (omega arith))
       | else-has-shape w ↦
           subst Next (sym w.group-is)
           (grouped_other c.args.shape f c.loop-kind.kind c.loop-way.way c.loop-way.group.count c.loop-way.group.ways c.loop-way.invariant
-          (shaped ∙ sym w.if-has-shape.ensures))
+          (shaped ∙ sym w.if-has_shape.ensures))
     ]
 
 pub loop-kind-preserved : goal.loop-kind-preserved

@@ -4,8 +4,8 @@ use Rattle.forms.proofs.Parts.{kinds_of_form}
 use Rattle.forms.proofs.Views.{view_counted}
 use Rattle.forms.proofs.view.FormView.kinds.Goals as goal
 
-pub kinds-count-requires : goal.kinds-count-requires
-kinds-count-requires c = let v = c.args.self.now in omega (arith, view_counted v, row_short v.room)
+pub kinds_count-requires : goal.kinds_count-requires
+kinds_count-requires c = let v = c.args.self.now in omega (arith, view_counted v, row_short v.room)
 
 pub returns : goal.returns
 returns c =

@@ -2,8 +2,8 @@ use Rattle.std.proofs.Common.{arith}
 use Rattle.forms.proofs.Views.{view_kind}
 use Rattle.forms.proofs.view.FormView.ways.Goals as goal
 
-pub ways-count-requires : goal.ways-count-requires
-ways-count-requires c = omega (arith, view_kind c.args.self.now c.args.kind c.requires)
+pub ways_count-requires : goal.ways_count-requires
+ways_count-requires c = omega (arith, view_kind c.args.self.now c.args.kind c.requires)
 
 pub returns : goal.returns
 returns c =

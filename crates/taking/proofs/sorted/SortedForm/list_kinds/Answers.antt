@@ -8,5 +8,5 @@ use Rattle.taking.proofs.sorted.SortedForm.list_kinds.Goals as goal
 pub returns : goal.returns
 returns c = c.kinds_seen.ensures ∙ sym (list_sees_taken (form_of c.args.self.now.form) c.args.self.now.lists c.args.count c.args.kinds c.args.self.now.listed)
 
-pub kinds-seen-requires : goal.kinds-seen-requires
-kinds-seen-requires c = group_there List (form_of c.args.self.now.form) c.args.self.now.lists c.args.self.now.listed
+pub kinds_seen-requires : goal.kinds_seen-requires
+kinds_seen-requires c = group_there List (form_of c.args.self.now.form) c.args.self.now.lists c.args.self.now.listed

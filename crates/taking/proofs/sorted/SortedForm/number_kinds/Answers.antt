@@ -8,5 +8,5 @@ use Rattle.taking.proofs.sorted.SortedForm.number_kinds.Goals as goal
 pub returns : goal.returns
 returns c = c.kinds_seen.ensures ∙ sym (number_kinds (form_of c.args.self.now.form) c.args.self.now.numbers c.args.self.now.numbered c.args.number)
 
-pub kinds-seen-requires : goal.kinds-seen-requires
-kinds-seen-requires c = group_there Number (form_of c.args.self.now.form) c.args.self.now.numbers c.args.self.now.numbered
+pub kinds_seen-requires : goal.kinds_seen-requires
+kinds_seen-requires c = group_there Number (form_of c.args.self.now.form) c.args.self.now.numbers c.args.self.now.numbered
