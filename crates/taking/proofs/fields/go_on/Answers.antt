@@ -19,10 +19,10 @@ holds-requires c = omega (arith, c.place-place.ensures.limits, kinds_few c.args.
 pub returns-then-place-name : goal.returns-then-place-name
 returns-then-place-name c =
     let ps = places_of (way_at (form_of c.args.form) c.args.kind c.args.way) in
-    goes_on c.args.kinds c.loop-index.index c.place-place.result.kind _ ps c.holds.result c.IsBehind.result
+    goes_on c.args.kinds c.loop-index.index c.place-place.result.kind _ ps c.holds.result c.behind.result
     (c.loop-index.invariant
     ∙ find_here ps c.loop-index.index c.place-place.result (omega (arith, c.in-Record.ensures.places)) c.place-place.ensures.is c.args.name c.if-place-name.true)
-    (cc) c.IsBehind.ensures
+    (cc) c.behind.ensures
 
 pub returns-then-place : goal.returns-then-place
 returns-then-place c =

@@ -44,63 +44,63 @@ take_list-returns t c =
     list_ends c.args.levels _ (list_last f c.loop.counter c.loop.kinds) _ c.args.row.now c.loop.rest.now (omega arith) c.loop.invariant
     ∙ ap (λ i. done i c.loop.rest.now) (list_over f c.args.form.now.lists c.loop.counter c.loop.kinds (view_closed c.args.form.now.form) c.args.form.now.listed ∙ ap (λ n. kinds_seen (list_sees n c.loop.kinds f) c.args.form.now.lists (length f)) (omega arith) ∙ sym c.kinds_seen.ensures)
 
-pub take_paper-returns-in_err-number : goal.take_paper-returns-in_err-number
-take_paper-returns-in_err-number t c =
+pub take_paper-returns-in_err-number-in-Number : goal.take_paper-returns-in_err-number-in-Number
+take_paper-returns-in_err-number-in-Number t c =
     let f = form_of c.args.form.now.form in
     let o = c.in_ok-opening.ensures in
-    let h = c.in_err-number.ensures in
-    hands_on _ c.from_residual-in_err-number.result c.in_err-number.field-0.0 c.from_residual-in_err-number.ensures.1 (
+    let h = c.in_err-number-in-Number.ensures in
+    hands_on _ c.from_residual-in_err-number-in-Number.result c.in_err-number-in-Number.field-0.0 c.from_residual-in_err-number-in-Number.ensures.1 (
       h.0,
       number_inside (kinds_of f) (λ x. x) c.args.levels c.in_ok-opening.opening.below c.args.row.now c.in_ok-opening.opening.rest.now c.in_ok-opening.opening.start o.0 o.1
-          (λ n. kinds_seen (number_sees n f) c.args.form.now.numbers (length f)) (number_kinds f c.args.form.now.numbers c.args.form.now.numbered) c.in-Number.is (fault c.in_err-number.field-0.0.why h.0) (ap (into (λ n. kinds_seen (number_sees n f) c.args.form.now.numbers (length f))) h.1),
+          (λ n. kinds_seen (number_sees n f) c.args.form.now.numbers (length f)) (number_kinds f c.args.form.now.numbers c.args.form.now.numbered) c.in-Number.is (fault c.in_err-number-in-Number.field-0.0.why h.0) (ap (into (λ n. kinds_seen (number_sees n f) c.args.form.now.numbers (length f))) h.1),
       h.2,
     )
 
-pub take_paper-returns-in_ok-number : goal.take_paper-returns-in_ok-number
-take_paper-returns-in_ok-number t c =
+pub take_paper-returns-in_ok-number-in-Number : goal.take_paper-returns-in_ok-number-in-Number
+take_paper-returns-in_ok-number-in-Number t c =
     let f = form_of c.args.form.now.form in
     let o = c.in_ok-opening.ensures in
-    let h = c.in_ok-number.ensures in
+    let h = c.in_ok-number-in-Number.ensures in
     number_inside (kinds_of f) (λ x. x) c.args.levels c.in_ok-opening.opening.below c.args.row.now c.in_ok-opening.opening.rest.now c.in_ok-opening.opening.start o.0 o.1
-    (λ n. kinds_seen (number_sees n f) c.args.form.now.numbers (length f)) (number_kinds f c.args.form.now.numbers c.args.form.now.numbered) c.in-Number.is (done _ c.in_ok-number.number.rest.now) (ap (into (λ n. kinds_seen (number_sees n f) c.args.form.now.numbers (length f))) h) ∙ ap (λ v. done v c.in_ok-number.number.rest.now) (sym c.kinds_seen.ensures)
+    (λ n. kinds_seen (number_sees n f) c.args.form.now.numbers (length f)) (number_kinds f c.args.form.now.numbers c.args.form.now.numbered) c.in-Number.is (done _ c.in_ok-number-in-Number.number.rest.now) (ap (into (λ n. kinds_seen (number_sees n f) c.args.form.now.numbers (length f))) h) ∙ ap (λ v. done v c.in_ok-number-in-Number.number.rest.now) (sym c.kinds_seen.ensures)
 
-pub take_paper-returns-in_err-papers : goal.take_paper-returns-in_err-papers
-take_paper-returns-in_err-papers t c =
+pub take_paper-returns-in_err-papers-in-List : goal.take_paper-returns-in_err-papers-in-List
+take_paper-returns-in_err-papers-in-List t c =
     let f = form_of c.args.form.now.form in
     let o = c.in_ok-opening.ensures in
-    let h = c.in_err-papers.ensures in
-    hands_on _ c.from_residual-in_err-papers.result c.in_err-papers.field-0.0 c.from_residual-in_err-papers.ensures.1 (
+    let h = c.in_err-papers-in-List.ensures in
+    hands_on _ c.from_residual-in_err-papers-in-List.result c.in_err-papers-in-List.field-0.0 c.from_residual-in_err-papers-in-List.ensures.1 (
       h.0,
       list_inside (kinds_of f) (λ x. x) c.args.levels c.in_ok-opening.opening.below c.args.row.now c.in_ok-opening.opening.rest.now c.in_ok-opening.opening.start o.0 o.1
-          (list_kinds f) (λ x. refl) c.in-List.is (fault c.in_err-papers.field-0.0.why h.0) h.1,
+          (list_kinds f) (λ x. refl) c.in-List.is (fault c.in_err-papers-in-List.field-0.0.why h.0) h.1,
       h.2,
     )
 
-pub take_paper-returns-in_ok-papers : goal.take_paper-returns-in_ok-papers
-take_paper-returns-in_ok-papers t c =
+pub take_paper-returns-in_ok-papers-in-List : goal.take_paper-returns-in_ok-papers-in-List
+take_paper-returns-in_ok-papers-in-List t c =
     let f = form_of c.args.form.now.form in
     let o = c.in_ok-opening.ensures in
     list_inside (kinds_of f) (λ x. x) c.args.levels c.in_ok-opening.opening.below c.args.row.now c.in_ok-opening.opening.rest.now c.in_ok-opening.opening.start o.0 o.1
-    (list_kinds f) (λ x. refl) c.in-List.is (done c.in_ok-papers.papers.value c.in_ok-papers.papers.rest.now) c.in_ok-papers.ensures
+    (list_kinds f) (λ x. refl) c.in-List.is (done c.in_ok-papers-in-List.papers.value c.in_ok-papers-in-List.papers.rest.now) c.in_ok-papers-in-List.ensures
 
-pub take_paper-returns-in_err-fields : goal.take_paper-returns-in_err-fields
-take_paper-returns-in_err-fields t c =
+pub take_paper-returns-in_err-fields-in-Record : goal.take_paper-returns-in_err-fields-in-Record
+take_paper-returns-in_err-fields-in-Record t c =
     let f = form_of c.args.form.now.form in
     let o = c.in_ok-opening.ensures in
-    let h = c.in_err-fields.ensures in
-    hands_on _ c.from_residual-in_err-fields.result c.in_err-fields.field-0.0 c.from_residual-in_err-fields.ensures.1 (
+    let h = c.in_err-fields-in-Record.ensures in
+    hands_on _ c.from_residual-in_err-fields-in-Record.result c.in_err-fields-in-Record.field-0.0 c.from_residual-in_err-fields-in-Record.ensures.1 (
       h.0,
       record_inside (kinds_of f) (λ x. x) c.args.levels c.in_ok-opening.opening.below c.args.row.now c.in_ok-opening.opening.rest.now c.in_ok-opening.opening.start o.0 o.1
-          (record_kinds f) (λ x. refl) c.in-Record.is (fault c.in_err-fields.field-0.0.why h.0) h.1,
+          (record_kinds f) (λ x. refl) c.in-Record.is (fault c.in_err-fields-in-Record.field-0.0.why h.0) h.1,
       h.2,
     )
 
-pub take_paper-returns-in_ok-fields : goal.take_paper-returns-in_ok-fields
-take_paper-returns-in_ok-fields t c =
+pub take_paper-returns-in_ok-fields-in-Record : goal.take_paper-returns-in_ok-fields-in-Record
+take_paper-returns-in_ok-fields-in-Record t c =
     let f = form_of c.args.form.now.form in
     let o = c.in_ok-opening.ensures in
     record_inside (kinds_of f) (λ x. x) c.args.levels c.in_ok-opening.opening.below c.args.row.now c.in_ok-opening.opening.rest.now c.in_ok-opening.opening.start o.0 o.1
-    (record_kinds f) (λ x. refl) c.in-Record.is (done c.in_ok-fields.fields.value c.in_ok-fields.fields.rest.now) c.in_ok-fields.ensures
+    (record_kinds f) (λ x. refl) c.in-Record.is (done c.in_ok-fields-in-Record.fields.value c.in_ok-fields-in-Record.fields.rest.now) c.in_ok-fields-in-Record.ensures
 
 pub take_record-returns-in_err-count : goal.take_record-returns-in_err-count
 take_record-returns-in_err-count t c =
@@ -157,5 +157,5 @@ take_list-kinds_seen-requires t c = group_there List (form_of c.args.form.now.fo
 pub take_record-advance-requires : goal.take_record-advance-requires
 take_record-advance-requires t c = group_there Record (form_of c.args.form.now.form) c.args.form.now.records c.args.form.now.recorded
 
-pub take-record_kinds-seen-requires : goal.take-record_kinds-seen-requires
-take-record_kinds-seen-requires t c = group_there Record (form_of c.args.form.now.form) c.args.form.now.records c.args.form.now.recorded
+pub take_record-kinds_seen-requires : goal.take_record-kinds_seen-requires
+take_record-kinds_seen-requires t c = group_there Record (form_of c.args.form.now.form) c.args.form.now.records c.args.form.now.recorded

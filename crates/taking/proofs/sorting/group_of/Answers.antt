@@ -6,7 +6,7 @@ use Rattle.taking.specs.Groups.{has_shape}
 use Rattle.taking.proofs.Groups.{Grouped, grouped_none, grouped_other, grouped_push, grouped_kind, grouped_all}
 use Rattle.taking.proofs.Rooms.{kinds_few, ways_few}
 use Rattle.taking.proofs.sorting.group_of.Goals as goal
-use Rattle.taking.proofs.sorting.group_of.Goals.{then-has-shape, else-has-shape}
+use Rattle.taking.proofs.sorting.group_of.Goals.{then-has_shape, else-has_shape}
 
 pub loop-kind-init : goal.loop-kind-init
 loop-kind-init c = grouped_none c.args.shape (form_of c.args.form) c.new-group.result.count c.new-group.result.ways c.new-group.ensures.count c.new-group.ensures.sized
@@ -31,11 +31,11 @@ loop-way-preserved c =
     let Next : Group → _ = λ g. Grouped c.args.shape f c.loop-kind.kind (c.loop-way.way + 1) g.count g.ways in
     let shaped = ap (λ x. has_shape x c.args.shape) (sym c.way.ensures.is) in
     elim c.if-has_shape.branch [
-      | then-has-shape w ↦
+      | then-has_shape w ↦
           subst Next (sym w.group-is)
           (grouped_push c.args.shape f c.loop-kind.kind c.loop-way.way c.loop-way.group.count c.loop-way.group.ways _ _ c.loop-way.invariant
           w.push.ensures.count w.push.ensures.ways (omega arith) (omega arith) (shaped ∙ sym w.if-has_shape.ensures) (omega arith))
-      | else-has-shape w ↦
+      | else-has_shape w ↦
           subst Next (sym w.group-is)
           (grouped_other c.args.shape f c.loop-kind.kind c.loop-way.way c.loop-way.group.count c.loop-way.group.ways c.loop-way.invariant
           (shaped ∙ sym w.if-has_shape.ensures))
