@@ -5,6 +5,7 @@ use anyhow::anyhow;
 use forms::{Side, side_of, two_forms};
 use programs::{finish, kind_of, parse, row_of};
 use std::env;
+use std::process::ExitCode;
 
 const HELP: &str = "\
 compare_forms OLD NEW [K [J]]
@@ -60,7 +61,11 @@ fn run(rt: &HostRuntime) -> anyhow::Result<bool> {
     }
 }
 
-fn main(rt: HostRuntime) -> anyhow::Result<()> {
+// `finish` has told the error.
+fn main(rt: HostRuntime) -> ExitCode {
     let result = run(&rt);
-    finish(&rt, "compare_forms", result)
+    match finish(&rt, "compare_forms", result) {
+        Ok(()) => ExitCode::SUCCESS,
+        Err(_) => ExitCode::FAILURE,
+    }
 }

@@ -7,6 +7,7 @@ use anyhow::anyhow;
 use forms::{FormView, Room, one_form};
 use programs::{finish, parse, row_of};
 use std::env;
+use std::process::ExitCode;
 use words::print_form;
 
 const HELP: &str = "\
@@ -44,7 +45,11 @@ fn run(rt: &HostRuntime) -> anyhow::Result<bool> {
     Ok(true)
 }
 
-fn main(rt: HostRuntime) -> anyhow::Result<()> {
+// `finish` has told the error.
+fn main(rt: HostRuntime) -> ExitCode {
     let result = run(&rt);
-    finish(&rt, "inspect_form", result)
+    match finish(&rt, "inspect_form", result) {
+        Ok(()) => ExitCode::SUCCESS,
+        Err(_) => ExitCode::FAILURE,
+    }
 }

@@ -3,16 +3,10 @@
 
 mod finding;
 mod laws;
-mod lists;
 mod minimal;
 mod node;
-mod numbers;
 mod putting;
-mod records;
 mod round;
-mod rounds;
-mod seeing;
-mod steps;
 mod table;
 
 pub use laws::{
@@ -20,5 +14,4 @@ pub use laws::{
     flattest_shown, kinds_by_parts, next_round, round_complete, round_monotone, round_sound,
 };
 pub use node::{Field, Node};
-pub use rounds::counterexample;
 pub use table::Table;

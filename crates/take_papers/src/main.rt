@@ -15,6 +15,7 @@ use programs::{finish, kind_of, parse, row_of};
 use std::alloc::Global;
 use std::env;
 use std::io::{BufWriter, Stdin, Stdout, Write};
+use std::process::ExitCode;
 use stream::{MOST, Papers};
 use taking::{SortedForm, Taking, take_as};
 
@@ -118,7 +119,11 @@ fn run(rt: &HostRuntime) -> anyhow::Result<bool> {
     Ok(answered? || !command.exit_code)
 }
 
-fn main(rt: HostRuntime) -> anyhow::Result<()> {
+// `finish` has told the error.
+fn main(rt: HostRuntime) -> ExitCode {
     let result = run(&rt);
-    finish(&rt, "take_papers", result)
+    match finish(&rt, "take_papers", result) {
+        Ok(()) => ExitCode::SUCCESS,
+        Err(_) => ExitCode::FAILURE,
+    }
 }
