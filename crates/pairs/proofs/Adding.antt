@@ -1,5 +1,5 @@
 -- A node put into the table, for a pair under which nothing was found.
-use Rattle.std.proofs.Common.{◌≡◌, ℕ, suc, ◌+◌, ◌-◌, ◌<◌, ◌≤◌, Bool, true, false, not, ◌&&◌, ◌||◌, eqb, ◌⊎◌, List, [], ◌∷◌, ◌++◌, length, get_or, take, set, sym, refl, ap, ◌∙◌, subst, inl, inr, arith}
+use Rattle.std.proofs.Common.{◌≡◌, ℕ, suc, ◌+◌, ◌-◌, ◌<◌, ◌≤◌, Bool, true, false, not, ◌&&◌, eqb, ◌⊎◌, List, [], ◌∷◌, ◌++◌, length, get_or, take, set, sym, refl, ap, ◌∙◌, subst, inl, inr, arith}
 use Rattle.std.proofs.lemmas.List.{length-set, length_push, length-take-le, take_more_set, get_or_append_left, get_or_push, get_or-set_same, get_or-set_other}
 use Rattle.std.proofs.lemmas.Bool.{cases_eq, cases_Bool, cases_order, eqb-true, eq-eqb, and_parts, and_cases, or_left, or_right, or_cases, not-true, not-false, both_ways}
 use Rattle.taking.specs.Masks.{test}
@@ -10,7 +10,7 @@ use Rattle.pairs.specs.declared.round.Round.{Round}
 use Rattle.pairs.specs.declared.table.Table.{Table}
 use Rattle.pairs.specs.Nodes.{node_paper, NamesBelow, NamesEarlier}
 use Rattle.pairs.specs.Rounds.{HasPaper}
-use Rattle.pairs.specs.Searches.{one_of, two_of, Running, Stopped, Grown, Tried}
+use Rattle.pairs.specs.Searches.{one_of, two_of, Running, Stopped, Tried}
 use Rattle.pairs.specs.Tables.{found_at, with_set, Marked, MarkedAt, node_of, papers_of, paper_of, HasUnder, pairs_found, minimal_at, mark_at}
 use Rattle.pairs.proofs.Families.{inside_itself}
 use Rattle.pairs.proofs.Pairing.{pairs_le, pairs_more, found_here, found_other, sets_here}

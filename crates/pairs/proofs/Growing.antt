@@ -1,5 +1,5 @@
 -- Tables that grow: what was found stays.
-use Rattle.std.proofs.Common.{◌≡◌, ℕ, ◌≤◌, sym, refl, ◌∙◌, arith}
+use Rattle.std.proofs.Common.{◌≡◌, ℕ, refl, ◌∙◌, arith}
 use Rattle.pairs.specs.declared.table.Table.{Table}
 use Rattle.pairs.specs.Searches.{Grown}
 use Rattle.pairs.specs.Tables.{HasUnder}

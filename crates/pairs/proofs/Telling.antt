@@ -1,6 +1,6 @@
 -- The papers of nodes, one node more.
-use Rattle.std.proofs.Common.{◌≡◌, ℕ, ◌+◌, ◌<◌, List, [], ◌∷◌, ◌++◌, length, get_or, take, set, sym, refl, ap, ◌∙◌, arith}
-use Rattle.std.proofs.lemmas.List.{length-append, length_push, length-take-le, take_more_set, get_or_append_left, get_or_push}
+use Rattle.std.proofs.Common.{◌≡◌, ℕ, ◌+◌, ◌<◌, List, [], ◌∷◌, ◌++◌, length, get_or, take, set, refl, ap, ◌∙◌, arith}
+use Rattle.std.proofs.lemmas.List.{length_push, length-take-le, take_more_set, get_or_append_left, get_or_push}
 use Rattle.papers.specs.Paper.{Paper, num}
 use Rattle.pairs.specs.declared.node.Node.{Node}
 use Rattle.pairs.specs.Nodes.{node_paper, told_onto, told, Appending}

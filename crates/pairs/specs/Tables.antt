@@ -1,5 +1,5 @@
 -- What a table holds: the pairs found, each with its node. Assumes nothing: these are definitions.
-use Rattle.std.specs.Prelude.{◌≡◌, ℕ, zero, suc, ◌+◌, ◌^◌, ◌<◌, ◌≤◌, Bool, true, false, List, [], length, take, set, bit_or, slice_index, slice_index_or, slice_set}
+use Rattle.std.specs.Prelude.{◌≡◌, ℕ, zero, suc, ◌+◌, ◌^◌, ◌<◌, Bool, true, List, [], take, bit_or, slice_index, slice_index_or, slice_set}
 use Rattle.papers.specs.Paper.{Paper, num}
 use Rattle.taking.specs.Masks.{bit, test}
 use Rattle.pairs.specs.declared.table.Found.{Found}

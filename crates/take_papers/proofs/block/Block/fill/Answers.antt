@@ -1,7 +1,6 @@
 use Rattle.std.proofs.Common.{refl, ◌∙◌}
 use Rattle.take_papers.specs.Held.{held}
 use Rattle.take_papers.proofs.Held.{stays, goes_further, goes_on_from}
-use Rattle.take_papers.proofs.block.Block.fill.Given as given
 use Rattle.take_papers.proofs.block.Block.fill.Goals as goal
 
 pub loop-self-init : goal.loop-self-init
