@@ -4,7 +4,7 @@ use Rattle.std.proofs.lemmas.Bool.{cases_Bool, both_ways, and_cases, cond-true, 
 use Rattle.std.proofs.lemmas.Bool.Decides.{nat_tests}
 use Rattle.forms.specs.declared.room.Room.{Room}
 use Rattle.forms.specs.declared.way.Way.{Way as Shape}
-use Rattle.forms.specs.declared.way.Way.TheVariants.{Number, List as List-of, Record}
+use Rattle.forms.specs.declared.way.Way.TheVariants.{Number, List as ListOf, Record}
 use Rattle.forms.specs.Form.{Way, number, list, record_of, shape, no_place, ways_at, way_at, places_of, place_at}
 use Rattle.forms.specs.Fits.{KeepsTo, fault, FirstFault, first_failing, count_fits, form_fits, kind_fits, way_fits_in, way_fits, within_limits, every, place_fits, name_above}
 use Rattle.forms.specs.Layout.{room_kinds, room_ways, row_length, kinds_count, ways_count, way_from, way_start, form_in, way_in, place_in, name_in, kind_in, mark_in}
@@ -78,7 +78,7 @@ placed n row at i h =
 -- What a way keeps to, in orders.
 pub keeps_to : (n : ℕ) (s : Shape) → within_limits n s ≡ true → KeepsTo n s
 keeps_to n (Number from to) h = (grind (arith, nat_tests), grind (arith, nat_tests))
-keeps_to n (List-of kind least most) h = (grind (arith, nat_tests), grind (arith, nat_tests), grind (arith, nat_tests))
+keeps_to n (ListOf kind least most) h = (grind (arith, nat_tests), grind (arith, nat_tests), grind (arith, nat_tests))
 keeps_to n (Record places) h = grind (arith, nat_tests)
 
 pub places_few : (n : ℕ) (w : Way) → KeepsTo n (shape w) → length (places_of w) ≤ 4

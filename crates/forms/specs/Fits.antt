@@ -2,7 +2,7 @@
 use Rattle.std.specs.Prelude.{◌≡◌, ℕ, zero, suc, ◌-◌, ◌^◌, ◌<◌, ◌≤◌, Bool, true, false, cond, ◌&&◌, ◌||◌, ◌⊎◌, List, length, ◌==◌, nat_le, nat_lt, slice_index}
 use Rattle.forms.specs.declared.room.Room.{Room}
 use Rattle.forms.specs.declared.way.Way.{Way as Shape}
-use Rattle.forms.specs.declared.way.Way.TheVariants.{Number, List as List-of, Record}
+use Rattle.forms.specs.declared.way.Way.TheVariants.{Number, List as ListOf, Record}
 use Rattle.forms.specs.Form.{places_of, shape}
 use Rattle.forms.specs.Layout.{room_kinds, room_ways, row_length, way_start, kinds_count, ways_count, name_in, kind_in, mark_in, way_from}
 
@@ -28,13 +28,13 @@ place_fits n row at i =
 -- The limits of a way in a form of n kinds, its places aside.
 abbrev pub within_limits : ℕ → Shape → Bool
 within_limits n (Number from to) = nat_lt from (2 ^ 32) && nat_lt to (2 ^ 32)
-within_limits n (List-of kind least most) = nat_lt kind n && (nat_le least 16 && nat_le most 16)
+within_limits n (ListOf kind least most) = nat_lt kind n && (nat_le least 16 && nat_le most 16)
 within_limits n (Record places) = nat_le places 4
 
 -- The same limits, as orders.
 abbrev pub KeepsTo : ℕ → Shape → Type 0
 KeepsTo n (Number from to) = (from < 2 ^ 32) × (to < 2 ^ 32)
-KeepsTo n (List-of kind least most) = (kind < n) × (least ≤ 16) × (most ≤ 16)
+KeepsTo n (ListOf kind least most) = (kind < n) × (least ≤ 16) × (most ≤ 16)
 KeepsTo n (Record places) = places ≤ 4
 
 -- The way that begins at `at`, in a form of n kinds: its tag is known, and it and its places keep to the limits.

@@ -2,7 +2,7 @@
 use Rattle.std.specs.Prelude.{ℕ, ◌^◌, ◌<◌, ◌≤◌, Bool, true, false, ◌&&◌, List, [], ◌∷◌, length, get_or, nat_lt, slice_index_or}
 use Rattle.forms.specs.declared.way.Place.{Place}
 use Rattle.forms.specs.declared.way.Way.{Way as Shape}
-use Rattle.forms.specs.declared.way.Way.TheVariants.{Number, List as List-of, Record}
+use Rattle.forms.specs.declared.way.Way.TheVariants.{Number, List as ListOf, Record}
 
 -- One way in which a kind of paper may look.
 pub data Way : Type 0 where
@@ -38,12 +38,12 @@ place_at f k w i = slice_index_or (places_of (way_at f k w)) i no_place
 -- A way as the code has it in hand: of a record only how many places it has.
 abbrev pub shape : Way → Shape
 shape (number a b) = Number a b
-shape (list k a b) = List-of k a b
+shape (list k a b) = ListOf k a b
 shape (record_of ps) = Record (length ps)
 
 abbrev pub shape_places : Shape → ℕ
 shape_places (Number a b) = 0
-shape_places (List-of k a b) = 0
+shape_places (ListOf k a b) = 0
 shape_places (Record n) = n
 
 -- Proper: the places of every record stand by strictly rising name.

@@ -6,7 +6,7 @@ use Rattle.std.specs.Prelude.{◌≡◌, ℕ, ◌<◌, ◌≤◌, List, [], ◌�
 use Rattle.papers.specs.Paper.{Paper, num, items, fields, Papers, no_items, item, Fields, no_fields, field}
 use Rattle.pairs.specs.declared.node.Field.{Field}
 use Rattle.pairs.specs.declared.node.Node.{Node}
-use Rattle.pairs.specs.declared.node.Node.TheVariants.{Number, List as List-node, Record}
+use Rattle.pairs.specs.declared.node.Node.TheVariants.{Number, List as ListNode, Record}
 
 -- The papers at these places among ds, and the fields that name them.
 unfoldable pub papers_at : List Paper → List ℕ → Papers
@@ -20,7 +20,7 @@ fields_at ds (f ∷ fs) = field f.name (slice_index_or ds f.node (num 0)) (field
 -- The paper of a node over the papers of the nodes before it.
 abbrev pub node_paper : List Paper → Node → Paper
 node_paper ds (Number n) = num n
-node_paper ds (List-node count nodes) = items (papers_at ds (take count nodes))
+node_paper ds (ListNode count nodes) = items (papers_at ds (take count nodes))
 node_paper ds (Record count fs) = fields (fields_at ds (take count fs))
 
 -- The papers of nodes, from the left: each is made over those before it.
@@ -34,7 +34,7 @@ told ns = told_onto [] ns
 -- A node has room for its parts, and names only nodes before place i.
 abbrev pub NamesBelow : ℕ → Node → Type 0
 NamesBelow i (Number n) = Unit {0}
-NamesBelow i (List-node count nodes) = (count ≤ 16) × ((p : ℕ) → p < count → slice_index nodes p < i)
+NamesBelow i (ListNode count nodes) = (count ≤ 16) × ((p : ℕ) → p < count → slice_index nodes p < i)
 NamesBelow i (Record count fs) = (count ≤ 4) × ((p : ℕ) → p < count → (get_or fs p (record { name = 0; node = 0 })).node < i)
 
 -- Each node names only nodes before it.

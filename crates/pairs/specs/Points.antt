@@ -1,14 +1,14 @@
 -- Stretches of numbers that a form does not tell apart. Assumes nothing: these are definitions.
 use Rattle.std.specs.Prelude.{◌≡◌, ℕ, ◌^◌, ◌<◌, ◌≤◌, length}
 use Rattle.forms.specs.declared.way.Way.{Way as Shape}
-use Rattle.forms.specs.declared.way.Way.TheVariants.{Number, List as List-of, Record}
+use Rattle.forms.specs.declared.way.Way.TheVariants.{Number, List as ListOf, Record}
 use Rattle.forms.specs.Form.{Form, Way, shape, ways_at, way_at}
 use Rattle.taking.specs.Takes.{number_takes}
 
 -- A range that ends below 2 ^ 32, or no range.
 abbrev pub Small : Shape → Type 0
 Small (Number from to) = to < 2 ^ 32
-Small (List-of kind least most) = Unit {0}
+Small (ListOf kind least most) = Unit {0}
 Small (Record places) = Unit {0}
 
 -- A way takes all numbers from n on and below end, if it takes n, and else none of them.

@@ -1,6 +1,6 @@
 -- How deep papers are, step by step. Assumes nothing.
 use Rattle.std.proofs.Common.{◌≡◌, ℕ, suc, ◌≤◌, max, List, ◌∷◌, refl, arith}
-use Rattle.papers.specs.declared.reading.Start.TheVariants.{List as List-start, Record}
+use Rattle.papers.specs.declared.reading.Start.TheVariants.{List as ListStart, Record}
 use Rattle.papers.specs.Reading.{done, into, read_list, read_record, read_paper}
 use Rattle.papers.specs.Paper.{Paper, num, items, fields, Papers, no_items, item, Fields, no_fields, field, deep, all_deep, fields_deep}
 use Rattle.papers.proofs.Outcomes.{into_done}
@@ -54,7 +54,7 @@ paper_flat n xs v rest e =
 
 pub list_flat : (n : ℕ) (xs : List ℕ) (v : ℕ) (rest : List ℕ) → into all_deep (read_list (read_paper n) xs) ≡ done v rest → v ≤ n
 list_flat n xs v rest e =
-    omega (arith, paper_flat (suc n) (1 ∷ xs) (suc v) rest (list_inside deep suc (suc n) n (1 ∷ xs) xs List-start refl refl all_deep deep_items refl (done v rest) e))
+    omega (arith, paper_flat (suc n) (1 ∷ xs) (suc v) rest (list_inside deep suc (suc n) n (1 ∷ xs) xs ListStart refl refl all_deep deep_items refl (done v rest) e))
 
 pub record_flat : (n : ℕ) (xs : List ℕ) (v : ℕ) (rest : List ℕ) → into fields_deep (read_record (read_paper n) xs) ≡ done v rest → v ≤ n
 record_flat n xs v rest e =

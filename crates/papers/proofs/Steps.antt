@@ -6,7 +6,7 @@ use Rattle.std.proofs.lemmas.Result.{err_from_is_err_and}
 use Rattle.papers.specs.declared.reading.Fault.{Fault}
 use Rattle.papers.specs.declared.reading.Part.{Part}
 use Rattle.papers.specs.declared.reading.Start.{Start}
-use Rattle.papers.specs.declared.reading.Start.TheVariants.{Number, List as List-start, Record}
+use Rattle.papers.specs.declared.reading.Start.TheVariants.{Number, List as ListStart, Record}
 use Rattle.papers.specs.declared.reading.Why.TheVariants.{NoPaper, Deeper}
 use Rattle.papers.specs.Telling.{start_number, Told}
 use Rattle.papers.specs.Row.{limit}
@@ -77,7 +77,7 @@ paper_too_deep (suc n) xs z h k = absurd (omega arith)
 -- a start that is known is at most 2
 pub known_start : (n : ℕ) (start : Start) → start_number start ≡ n → n ≤ 2
 known_start n Number e = omega arith
-known_start n List-start e = omega arith
+known_start n ListStart e = omega arith
 known_start n Record e = omega arith
 
 -- a row that begins with a number
@@ -103,10 +103,10 @@ module _ {X Y : Type 0} (val : Paper → X) (up : Y → X) (n m : ℕ) (xs rest 
   unfolding read_paper
   number_inside part h is p e = ap (into val) (starts n m xs rest s Number l z is) ∙ inside val num part up h (number_from 0 rest) p e
 
-  pub list_inside : (part : Papers → Y) → ((ds : Papers) → val (items ds) ≡ up (part ds)) → s ≡ List-start → (p : Outcome Y) →
+  pub list_inside : (part : Papers → Y) → ((ds : Papers) → val (items ds) ≡ up (part ds)) → s ≡ ListStart → (p : Outcome Y) →
       into part (read_list (read_paper m) rest) ≡ p → into val (read_paper n xs) ≡ into up p
   unfolding read_paper
-  list_inside part h is p e = ap (into val) (starts n m xs rest s List-start l z is) ∙ inside val items part up h (read_list (read_paper m) rest) p e
+  list_inside part h is p e = ap (into val) (starts n m xs rest s ListStart l z is) ∙ inside val items part up h (read_list (read_paper m) rest) p e
 
   pub record_inside : (part : Fields → Y) → ((fs : Fields) → val (fields fs) ≡ up (part fs)) → s ≡ Record → (p : Outcome Y) →
       into part (read_record (read_paper m) rest) ≡ p → into val (read_paper n xs) ≡ into up p

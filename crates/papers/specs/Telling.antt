@@ -4,7 +4,7 @@ use Rattle.papers.specs.declared.reading.Fault.{Fault}
 use Rattle.papers.specs.declared.reading.Opening.{Opening}
 use Rattle.papers.specs.declared.reading.Part.{Part}
 use Rattle.papers.specs.declared.reading.Start.{Start}
-use Rattle.papers.specs.declared.reading.Start.TheVariants.{Number, List as List-start, Record}
+use Rattle.papers.specs.declared.reading.Start.TheVariants.{Number, List as ListStart, Record}
 use Rattle.papers.specs.declared.reading.Why.{Why}
 use Rattle.papers.specs.declared.reading.Why.TheVariants.{NoPaper, Deeper}
 use Rattle.papers.specs.declared.refusal.Refusal.{Refusal}
@@ -16,7 +16,7 @@ use Rattle.papers.specs.Refusals.{number_of, place_of}
 -- the number that a paper begins with
 abbrev pub start_number : Start → ℕ
 start_number Number = 0
-start_number List-start = 1
+start_number ListStart = 1
 start_number Record = 2
 
 -- an answer that says what a reading came to: what was read and the rest, or why not and how much was left there

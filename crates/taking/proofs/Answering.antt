@@ -10,7 +10,7 @@ use Rattle.papers.specs.Telling.{Stands, Refuses, number_for}
 use Rattle.papers.proofs.Answering.{row_stands, round_trip}
 use Rattle.forms.specs.declared.room.Room.{Room}
 use Rattle.forms.specs.Asked.{HasKind, one_asked, refuse_unless}
-use Rattle.forms.specs.Fits.{form_fits, FirstFault, fault as form-fault}
+use Rattle.forms.specs.Fits.{form_fits, FirstFault, fault as form_fault}
 use Rattle.forms.specs.Form.{Form}
 use Rattle.forms.specs.Layout.{form_in}
 use Rattle.taking.specs.declared.entry.Taking.{Taking}
@@ -46,7 +46,7 @@ answered_is f row k (Refused e) h = refused_as f row k e (read_row row) h.told
 -- the form is one, and has the kind
 there : (room : Room) (form row : List ℕ) (k : ℕ) → HasKind room form k → take_answer room form row k ≡ row_answer (form_in room form) row k (read_row row)
 there room form row k h =
-    ap (λ b. refuse_unless b 1 (form-fault room form) (refuse_unless (ltb k (length (form_in room form))) 3 k (row_answer (form_in room form) row k (read_row row)))) h.0
+    ap (λ b. refuse_unless b 1 (form_fault room form) (refuse_unless (ltb k (length (form_in room form))) 3 k (row_answer (form_in room form) row k (read_row row)))) h.0
     ∙ ap (λ b. refuse_unless b 3 k (row_answer (form_in room form) row k (read_row row))) (lt-ltb k (length (form_in room form)) h.1)
 
 -- a row that is a paper has one answer
@@ -83,7 +83,7 @@ answered room form row k kind r same has h =
 pub kind_asked : (room : Room) (form : List ℕ) (k kind : ℕ) → Ok kind ≡ one_asked room form k → kind ≡ k
 kind_asked room form k kind = at (form_fits room form) (ltb k (length (form_in room form)))
   where
-    at : (x y : Bool) → Ok kind ≡ refuse_unless x 1 (form-fault room form) (refuse_unless y 3 k (Ok k)) → kind ≡ k
+    at : (x y : Bool) → Ok kind ≡ refuse_unless x 1 (form_fault room form) (refuse_unless y 3 k (Ok k)) → kind ≡ k
     at true true e = cc
     at true false e = cc
     at false y e = cc
@@ -92,11 +92,11 @@ kind_asked room form k kind = at (form_fits room form) (ltb k (length (form_in r
 refused_first : (room : Room) (form row : List ℕ) (k : ℕ) (e : ℕ × ℕ) → Err e ≡ one_asked room form k → Err e ≡ take_answer room form row k
 refused_first room form row k e = at (form_fits room form) (ltb k (length (form_in room form)))
   where
-    at : (x y : Bool) → Err e ≡ refuse_unless x 1 (form-fault room form) (refuse_unless y 3 k (Ok k)) →
-        Err e ≡ refuse_unless x 1 (form-fault room form) (refuse_unless y 3 k (row_answer (form_in room form) row k (read_row row)))
+    at : (x y : Bool) → Err e ≡ refuse_unless x 1 (form_fault room form) (refuse_unless y 3 k (Ok k)) →
+        Err e ≡ refuse_unless x 1 (form_fault room form) (refuse_unless y 3 k (row_answer (form_in room form) row k (read_row row)))
     at true true h = let z : ◌≡◌ {A = ℕ} 0 1 = cc in absurd (omega arith)
     at true false h = let same : e ≡ (3, k) = cc in ap Err same
-    at false y h = let same : e ≡ (1, form-fault room form) = cc in ap Err same
+    at false y h = let same : e ≡ (1, form_fault room form) = cc in ap Err same
 
 pub refused_asked : (room : Room) (form row : List ℕ) (k : ℕ) (e : Refusal) → Err (number_of e, place_of e) ≡ one_asked room form k →
     (number_of e ≡ 1 → FirstFault room form (place_of e)) → TakeTold room form row k (Refused e)

@@ -9,7 +9,7 @@ use Rattle.forms.specs.Form.{Form, Way, number, list, record_of, ways_at}
 use Rattle.taking.specs.Takes.{any, none_must, find, if_found, takes, fields_take}
 use Rattle.taking.specs.Within.{Wider, with_place, NewField}
 use Rattle.taking.proofs.Finding.{found_both}
-use Rattle.taking.proofs.Covering.{CoversPlaces, CoversPlaces.none, CoversPlaces.both, CoversPlaces.more, Covers, Covers.records, covers_same_numbers, covers_same_lists, Covered, Covered.none as no-ways, covered_by_more, covered_one_more, covered_takes}
+use Rattle.taking.proofs.Covering.{CoversPlaces, CoversPlaces.none, CoversPlaces.both, CoversPlaces.more, Covers, Covers.records, covers_same_numbers, covers_same_lists, Covered, Covered.none as no_ways, covered_by_more, covered_one_more, covered_takes}
 
 -- Places are covered by themselves and others behind them that need not be filled; a way and ways are covered by themselves.
 places_and_more : (ps rest : List Place) → CoversPlaces ◌≡◌ [] rest → CoversPlaces ◌≡◌ ps (ps ++ rest)
@@ -22,7 +22,7 @@ covers_itself (list k a b) = covers_same_lists refl
 covers_itself (record_of ps) = records (subst (CoversPlaces ◌≡◌ ps) (append-nil ps) (places_and_more ps [] none))
 
 covered_by_themselves : (ws : List Way) → Covered ◌≡◌ ws ws
-covered_by_themselves [] = no-ways
+covered_by_themselves [] = no_ways
 covered_by_themselves (w ∷ ws) = covered_one_more (covers_itself w) (covered_by_themselves ws)
 
 -- If the new ways of a kind cover the old ones, no paper is lost, at any kind.
@@ -78,4 +78,4 @@ new_field f i k x j ps l was _ =
     (λ d _ h. widened f i _ l covered d k h, lost f _ i _ ps refl was (get_or-set_same f i _ [] l))
   where
     covered : Covered ◌≡◌ (ways_at f i) (record_of (with_place ps (record { name = x; kind = j; must = false })) ∷ [])
-    covered = rw was (covered_one_more (records (places_and_more ps _ (more refl refl none))) no-ways)
+    covered = rw was (covered_one_more (records (places_and_more ps _ (more refl refl none))) no_ways)

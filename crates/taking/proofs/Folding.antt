@@ -10,7 +10,7 @@ use Rattle.forms.specs.declared.way.Place.{Place}
 use Rattle.forms.specs.Form.{Form, Way, number, list, record_of, shape, ways_at, way_at, places_of, KindsThereWays, Closed}
 use Rattle.taking.specs.declared.group.Group.{Group}
 use Rattle.taking.specs.declared.group.Shape.{Shape}
-use Rattle.taking.specs.declared.group.Shape.TheVariants.{Number, List as List-shape, Record}
+use Rattle.taking.specs.declared.group.Shape.TheVariants.{Number, List as ListShape, Record}
 use Rattle.taking.specs.declared.progress.Progress.{Progress}
 use Rattle.taking.specs.declared.progress.Progress.TheVariants.{At, Dead}
 use Rattle.taking.specs.Groups.{has_shape, entry, listed_way, listed_places, group_fits, sees_as, kind_sees, kinds_seen}
@@ -74,7 +74,7 @@ numbers_only n (number a b) e = refl
 numbers_only n (list k a b) e = e
 numbers_only n (record_of ps) e = e
 
-lists_only : (n : ℕ) (p : ℕ → Bool) (w : Way) → list_takes n p w ≡ true → has_shape (shape w) List-shape ≡ true
+lists_only : (n : ℕ) (p : ℕ → Bool) (w : Way) → list_takes n p w ≡ true → has_shape (shape w) ListShape ≡ true
 lists_only n p (number a b) e = e
 lists_only n p (list k a b) e = refl
 lists_only n p (record_of ps) e = e
@@ -137,11 +137,11 @@ list_next f i j s v u closed e h d same ds =
 abbrev pub list_sees : ℕ → ℕ → Form → ℕ → ℕ → ℕ → Bool
 list_sees n s f k w j = list_takes n (test s) (way_at f k w)
 
-pub list_sees_taken : (f : Form) (g : Group) (n s : ℕ) → group_fits List-shape f g ≡ true → list_taken f n (test s) ≡ kinds_seen (list_sees n s f) g (length f)
+pub list_sees_taken : (f : Form) (g : Group) (n s : ℕ) → group_fits ListShape f g ≡ true → list_taken f n (test s) ≡ kinds_seen (list_sees n s f) g (length f)
 unfolding list_taken
-list_sees_taken f g n s fits = kinds_any List-shape f g fits (list_takes n (test s)) (lists_only n (test s))
+list_sees_taken f g n s fits = kinds_any ListShape f g fits (list_takes n (test s)) (lists_only n (test s))
 
-pub list_over : (f : Form) (g : Group) (i s : ℕ) → Closed f → group_fits List-shape f g ≡ true →
+pub list_over : (f : Form) (g : Group) (i s : ℕ) → Closed f → group_fits ListShape f g ≡ true →
     list_last f i s no_items ≡ kinds_seen (list_sees i s f) g (length f)
 unfolding list_last both_take count takes
 list_over f g i s closed fits =

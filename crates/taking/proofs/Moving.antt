@@ -6,7 +6,7 @@ use Rattle.forms.specs.declared.way.Place.{Place}
 use Rattle.forms.specs.Form.{Form, Way, number, list, record_of, ways_at, Closed, KindsTherePlaces, KindsThereWays}
 use Rattle.taking.specs.Takes.{takes}
 use Rattle.taking.specs.Within.{moved_places, moved_ways, moved, MovedTakes}
-use Rattle.taking.proofs.Covering.{CoversPlaces, CoversPlaces.none, CoversPlaces.both, Covers.records, covers_same_numbers, covers_same_lists, Covered.none as no-ways, Alike, covered_one_more, alike_takes}
+use Rattle.taking.proofs.Covering.{CoversPlaces, CoversPlaces.none, CoversPlaces.both, Covers.records, covers_same_numbers, covers_same_lists, Covered.none as no_ways, Alike, covered_one_more, alike_takes}
 
 -- A kind k below m is numbered n + k.
 abbrev Moved : ℕ → ℕ → ℕ → ℕ → Type 0
@@ -23,7 +23,7 @@ places_alike m n (p ∷ ps) h =
 
 ways_alike : (m n : ℕ) (ws : List Way) → KindsThereWays m ws → Alike (Moved m n) ws (moved_ways n ws)
 unfolding KindsThereWays moved_ways
-ways_alike m n [] h = (no-ways, no-ways)
+ways_alike m n [] h = (no_ways, no_ways)
 ways_alike m n (number a b ∷ ws) h =
     let c = ways_alike m n ws h in
     (covered_one_more covers_same_numbers c.0, covered_one_more covers_same_numbers c.1)

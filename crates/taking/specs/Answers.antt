@@ -7,7 +7,7 @@ use Rattle.papers.specs.Refusals.{number_of, place_of}
 use Rattle.papers.specs.Telling.{Stands, TurnedAway, number_for}
 use Rattle.forms.specs.declared.room.Room.{Room}
 use Rattle.forms.specs.Asked.{HasKind, one_asked, refuse_unless}
-use Rattle.forms.specs.Fits.{form_fits, FirstFault, fault as form-fault}
+use Rattle.forms.specs.Fits.{form_fits, FirstFault, fault as form_fault}
 use Rattle.forms.specs.Form.{Form}
 use Rattle.forms.specs.Layout.{form_in}
 use Rattle.taking.specs.declared.entry.Taking.{Taking}
@@ -38,7 +38,7 @@ row_answer f row k (fault w left) = Err (number_for w, length row - length left)
 
 abbrev pub take_answer : Room → List ℕ → List ℕ → ℕ → Result Bool (ℕ × ℕ)
 take_answer room form row k =
-    refuse_unless (form_fits room form) 1 (form-fault room form)
+    refuse_unless (form_fits room form) 1 (form_fault room form)
     (refuse_unless (nat_lt k (length (form_in room form))) 3 k
     (row_answer (form_in room form) row k (read_row row)))
 

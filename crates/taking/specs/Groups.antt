@@ -1,27 +1,27 @@
 -- The ways of one shape in a form, listed by kind and way. Assumes nothing: these are definitions.
 use Rattle.std.specs.Prelude.{ℕ, ◌<◌, ◌≤◌, Bool, true, false, not, ◌&&◌, ◌||◌, List, length, ◌==◌, nat_le, nat_lt, slice_index_or}
 use Rattle.forms.specs.declared.way.Way.{Way as Shown}
-use Rattle.forms.specs.declared.way.Way.TheVariants.{Number as Shown-number, List as Shown-list, Record as Shown-record}
+use Rattle.forms.specs.declared.way.Way.TheVariants.{Number as ShownNumber, List as ShownList, Record as ShownRecord}
 use Rattle.forms.specs.Fits.{every}
 use Rattle.forms.specs.declared.way.Place.{Place}
 use Rattle.forms.specs.Form.{Form, Way, shape, ways_at, way_at, places_of}
 use Rattle.taking.specs.declared.group.Group.{Group}
 use Rattle.taking.specs.declared.group.Shape.{Shape}
-use Rattle.taking.specs.declared.group.Shape.TheVariants.{Number, List as List-shape, Record}
+use Rattle.taking.specs.declared.group.Shape.TheVariants.{Number, List as ListShape, Record}
 use Rattle.taking.specs.declared.group.WayAt.{WayAt}
 use Rattle.taking.specs.Masks.{mask, some_below}
 
 -- A way, as the code has it in hand, has a shape.
 abbrev pub has_shape : Shown → Shape → Bool
-has_shape (Shown-number a b) Number = true
-has_shape (Shown-number a b) List-shape = false
-has_shape (Shown-number a b) Record = false
-has_shape (Shown-list k a b) Number = false
-has_shape (Shown-list k a b) List-shape = true
-has_shape (Shown-list k a b) Record = false
-has_shape (Shown-record n) Number = false
-has_shape (Shown-record n) List-shape = false
-has_shape (Shown-record n) Record = true
+has_shape (ShownNumber a b) Number = true
+has_shape (ShownNumber a b) ListShape = false
+has_shape (ShownNumber a b) Record = false
+has_shape (ShownList k a b) Number = false
+has_shape (ShownList k a b) ListShape = true
+has_shape (ShownList k a b) Record = false
+has_shape (ShownRecord n) Number = false
+has_shape (ShownRecord n) ListShape = false
+has_shape (ShownRecord n) Record = true
 
 -- Entry i of a group.
 abbrev pub entry : List WayAt → ℕ → WayAt

@@ -1,6 +1,6 @@
 // Sets of kinds as masks: bit k says whether kind k is in the set.
 //
-// Each has a `requires`, that the kind is one that a mask has room for, as an index has: they are the inner steps of loops over kinds.
+// Each has a `requires`, that a mask has room for the kind or for so many kinds, as an index has: they are inner steps of loops over kinds.
 ghost use Rattle.std.specs.Prelude.{◌≡◌, ◌-◌, ◌^◌, ◌<◌, ◌≤◌, bit_or};
 ghost use Rattle.taking.specs.Masks.{test};
 
