@@ -1,4 +1,4 @@
-use Rattle.std.proofs.Common.{sym, ◌∙◌}
+use Rattle.std.proofs.Common.{arith}
 use Rattle.forms.specs.View.{form_of}
 use Rattle.taking.specs.declared.group.Shape.TheVariants.{List}
 use Rattle.taking.proofs.Groups.{group_there}
@@ -6,7 +6,7 @@ use Rattle.taking.proofs.Folding.{list_sees_taken}
 use Rattle.taking.proofs.sorted.SortedForm.list_kinds.Goals as goal
 
 pub returns : goal.returns
-returns c = c.kinds_seen.ensures ∙ sym (list_sees_taken (form_of c.args.self.now.form) c.args.self.now.lists c.args.count c.args.kinds c.args.self.now.listed)
+returns c = omega (arith, c.kinds_seen.ensures, list_sees_taken (form_of c.args.self.now.form) c.args.self.now.lists c.args.count c.args.kinds c.args.self.now.listed)
 
 pub kinds_seen-requires : goal.kinds_seen-requires
 kinds_seen-requires c = group_there List (form_of c.args.self.now.form) c.args.self.now.lists c.args.self.now.listed
