@@ -1,6 +1,7 @@
 // Forms at the bounds, each way in which a row is none, and the order of the refusals.
-use crate::making::TOP;
-use forms::{FormView, Room, Side, Way, kinds_of, one_form, side_of, two_forms};
+use crate::making::{TOP, number_and_place};
+use forms::{FormView, Place, Room, Side, Way, kinds_of, one_form, side_of, two_forms};
+use papers::Refusal;
 use std::test::Fail;
 
 // Four kinds; the first may be a number, a list or a record of four places, each at its bounds.
@@ -58,19 +59,13 @@ fn row_with(numbers: &[(usize, u64)]) -> [u64; 197] {
     row
 }
 
-// The number and the place of the refusal, or zeros.
-fn refusal(row: &[u64], k: u64) -> (u64, u64) {
-    match one_form(row, Room::Plain, k) {
-        Ok(_) => (0, 0),
-        Err(refusal) => (refusal.number(), refusal.place()),
-    }
+// The number and the place of the refusal, if there is one.
+fn refusal<T: Drop>(answer: Result<T, Refusal>) -> Option<(u64, u64)> {
+    answer.err().map(number_and_place)
 }
 
-fn refusal_of_two(one: &[u64], two: &[u64], k: u64, j: u64) -> (u64, u64) {
-    match two_forms(one, two, k, j) {
-        Ok(_) => (0, 0),
-        Err(refusal) => (refusal.number(), refusal.place()),
-    }
+fn refusal_of_one(row: &[u64], k: u64) -> Option<(u64, u64)> {
+    refusal(one_form(row, Room::Plain, k))
 }
 
 #[test]
@@ -79,65 +74,79 @@ fn reads_a_form_at_every_bound(rt: HostRuntime) -> Result<(), Fail> {
     let Some(kinds) = kinds_of(&row, Room::Plain) else {
         return Err(Fail::new("no form"));
     };
-    let form = FormView::new(&row, Room::Plain);
+    let Ok(form) = FormView::of(&row, Room::Plain) else {
+        return Err(Fail::new("no form"));
+    };
     assert_eq!(rt; kinds, 4);
     assert!(rt; form.kinds() == 4);
     assert!(rt; form.ways(0) == 3);
-    let Way::Number { from, to } = form.way(0, 0) else {
-        return Err(Fail::new("no number"));
-    };
-    assert_eq!(rt; (from, to), (TOP, TOP));
-    let Way::List { kind, least, most } = form.way(0, 1) else {
-        return Err(Fail::new("no list"));
-    };
-    assert_eq!(rt; (kind, least, most), (3, 16, 16));
-    let Way::Record { places } = form.way(0, 2) else {
-        return Err(Fail::new("no record"));
-    };
-    assert!(rt; places == 4);
-    let place = form.place(0, 2, 3);
-    assert_eq!(rt; (place.name, place.kind, place.must), (TOP, 3, true));
+    assert_eq!(rt; form.way(0, 0).read(), Way::Number { from: TOP, to: TOP });
+    assert_eq!(rt;
+        form.way(0, 1).read(),
+        Way::List {
+            kind: 3,
+            least: 16,
+            most: 16
+        }
+    );
+    let record = form.way(0, 2);
+    assert_eq!(rt; record.read(), Way::Record { places: 4 });
+    assert_eq!(rt;
+        record.place(3),
+        Place {
+            name: TOP,
+            kind: 3,
+            must: true
+        }
+    );
     Ok(())
 }
 
 #[test]
 fn tells_the_place_at_fault(rt: HostRuntime) {
     for (numbers, place) in &NONE {
-        assert_eq!(rt; refusal(&row_with(numbers), 0), (1, *place));
+        assert_eq!(rt; refusal_of_one(&row_with(numbers), 0), Some((1, *place)));
     }
-    assert_eq!(rt; refusal(&row_with(&FULL)[0..196], 0), (1, 4));
-    assert_eq!(rt; refusal(&row_with(&FULL), 4), (3, 4));
+    assert_eq!(rt; refusal_of_one(&row_with(&FULL)[0..196], 0), Some((1, 4)));
+    assert_eq!(rt; refusal_of_one(&row_with(&FULL), 4), Some((3, 4)));
 }
 
 #[test]
 fn looks_at_nothing_that_is_not_used(rt: HostRuntime) {
-    assert_eq!(rt; refusal(&row_with(&[(2, 9), (50, 9), (196, 9)]), 0), (0, 0));
+    assert_eq!(rt;
+        refusal_of_one(&row_with(&[(2, 9), (50, 9), (196, 9)]), 0),
+        None
+    );
     let mut long = [0; 200];
     long[0] = 1;
     long[197] = 9;
-    assert_eq!(rt; refusal(&long, 0), (0, 0));
+    assert_eq!(rt; refusal_of_one(&long, 0), None);
 }
 
 #[test]
 fn refuses_in_order(rt: HostRuntime) {
     let form = row_with(&[(0, 2)]);
     let none = row_with(&[(0, 2), (50, 4)]);
-    assert_eq!(rt; refusal_of_two(&form, &form, 1, 1), (0, 0));
-    assert_eq!(rt; refusal_of_two(&none, &none, 7, 9), (1, 1));
-    assert_eq!(rt; refusal_of_two(&form, &none, 7, 9), (2, 1));
-    assert_eq!(rt; refusal_of_two(&form, &form, 7, 9), (3, 7));
-    assert_eq!(rt; refusal_of_two(&form, &form, 1, 9), (3, 9));
+    assert_eq!(rt; refusal(two_forms(&form, &form, 1, 1)), None);
+    assert_eq!(rt; refusal(two_forms(&none, &none, 7, 9)), Some((1, 1)));
+    assert_eq!(rt; refusal(two_forms(&form, &none, 7, 9)), Some((2, 1)));
+    assert_eq!(rt; refusal(two_forms(&form, &form, 7, 9)), Some((3, 7)));
+    assert_eq!(rt; refusal(two_forms(&form, &form, 1, 9)), Some((3, 9)));
 }
 
 // A refusal of two forms speaks of the second: 2 always, 3 where the first has its kind.
 #[test]
 fn tells_the_form_at_fault(rt: HostRuntime) -> Result<(), Fail> {
     let form = row_with(&[(0, 2)]);
-    for (k, j, second) in [(7, 9, false), (1, 9, true), (9, 1, false)] {
+    for (k, j, side) in [
+        (7, 9, Side::First),
+        (1, 9, Side::Second),
+        (9, 1, Side::First),
+    ] {
         let Err(refusal) = two_forms(&form, &form, k, j) else {
             return Err(Fail::new("nothing is refused"));
         };
-        assert_eq!(rt; matches!(side_of(&form, k, refusal), Side::Second), second);
+        assert_eq!(rt; side_of(&form, k, refusal), side);
     }
     Ok(())
 }

@@ -1,5 +1,5 @@
 // Rows that are papers, and rows that are none with the number and place told.
-use crate::making::too_deep;
+use crate::making::{number_and_place, too_deep};
 use papers::{DEEPEST, Refusal, Why, read, read_front};
 use std::process::Abort;
 use std::test::Fail;
@@ -17,7 +17,7 @@ fn are_refused(rt: &impl Abort, rows: &[(&[u64], u64, u64)]) -> Result<(), Fail>
         let Err(refusal) = read(row) else {
             return Err(Fail::new("the row is a paper"));
         };
-        assert_eq!(rt; (refusal.number(), refusal.place()), (*number, *place));
+        assert_eq!(rt; number_and_place(refusal), (*number, *place));
     }
     Ok(())
 }
@@ -96,7 +96,7 @@ fn fronts(rt: HostRuntime) -> Result<(), Fail> {
     let Err(fault) = read_front(&row, 1) else {
         return Err(Fail::new("the front is too deep"));
     };
-    assert!(rt; matches!(fault.why, Why::Deeper));
+    assert_eq!(rt; fault.why, Why::Deeper);
     assert_eq!(rt; fault.left, 4);
     Ok(())
 }

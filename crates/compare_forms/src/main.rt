@@ -1,10 +1,10 @@
 // Compares two forms: whether the second takes every paper that the first takes.
 #![tactic(auto)]
 
-use anyhow::anyhow;
-use forms::{Side, side_of, two_forms};
-use programs::{finish, kind_of, parse, row_of};
-use std::env;
+ghost use Rattle.std.specs.Prelude.{◌≤◌, length};
+
+use forms::{side_of, two_forms};
+use programs::{Answer, Error, Program, kind_of, row_of};
 use std::process::ExitCode;
 
 const HELP: &str = "\
@@ -27,45 +27,32 @@ Options:
   --help        print this text
 ";
 
-// The word for a form.
-fn name(side: Side) -> &'static str {
-    match side {
-        Side::First => "first",
-        Side::Second => "second",
-    }
-}
+const PROGRAM: Program = Program {
+    name: "compare_forms",
+    help: HELP,
+    takes: "it takes two forms and up to two kinds",
+    least: 2,
+    most: 4,
+};
 
-// Whether the exit status is to be 0.
-fn run(rt: &HostRuntime) -> anyhow::Result<bool> {
-    let heap = rt.alloc();
-    let command = parse(heap, env::args(rt)?)?;
-    if command.help {
-        rt.print(HELP)?;
-        return Ok(true);
-    }
-    let words = command.words.as_slice();
-    if words.len() < 2 || words.len() > 4 {
-        return Err(anyhow!("it takes two forms and up to two kinds: see --help"));
-    }
-    let k = kind_of(heap, words.get(2), 0)?;
-    let j = kind_of(heap, words.get(3), k)?;
+// Compares the forms in the two files that are named.
+fn compare(rt: &HostRuntime, words: &[String]) -> Result<Answer, Error>
+    requires { 2 ≤ length words.now }
+{
+    let k = kind_of(words.get(2), 0)?;
+    let j = kind_of(words.get(3), k)?;
     let one = row_of(rt, words[0].as_str())?;
     let two = row_of(rt, words[1].as_str())?;
     match two_forms(&one, &two, k, j) {
-        Ok(_) => Err(anyhow!("comparing two forms is not implemented yet")),
+        Ok(_) => Err(Error::NotYet("comparing two forms")),
         Err(refusal) => {
-            let form = name(side_of(&one, k, refusal));
-            println!(rt; "{form} {refusal}")?;
-            Ok(!command.exit_code)
+            let side = side_of(&one, k, refusal);
+            println!(rt; "{side} {refusal}")?;
+            Ok(Answer::Bad)
         }
     }
 }
 
-// `finish` has told the error.
 fn main(rt: HostRuntime) -> ExitCode {
-    let result = run(&rt);
-    match finish(&rt, "compare_forms", result) {
-        Ok(()) => ExitCode::SUCCESS,
-        Err(_) => ExitCode::FAILURE,
-    }
+    PROGRAM.run(&rt, compare)
 }

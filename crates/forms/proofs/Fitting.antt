@@ -1,14 +1,14 @@
 -- What a row that is a form keeps to.
 use Rattle.std.proofs.Common.{◌≡◌, ℕ, ◌^◌, ◌<◌, ◌≤◌, Bool, true, false, ◌&&◌, ltb, leb, List, length, get_or, sym, refl, ap, ◌∙◌, subst, inl, inr, arith}
-use Rattle.std.proofs.lemmas.Bool.{cases_Bool, both_ways, and_cases, cond-true, cond-false, and_parts, leb-true, ltb-true}
+use Rattle.std.proofs.lemmas.Bool.{cases_Bool, both_ways, and_cases, cond-true, cond-false, and_parts, and_from, leb-true, ltb-true}
 use Rattle.std.proofs.lemmas.Bool.Decides.{nat_tests}
 use Rattle.forms.specs.declared.room.Room.{Room}
 use Rattle.forms.specs.declared.way.Way.{Way as Shape}
 use Rattle.forms.specs.declared.way.Way.TheVariants.{Number, List as ListOf, Record}
 use Rattle.forms.specs.Form.{Way, number, list, record_of, shape, no_place, ways_at, way_at, places_of, place_at}
-use Rattle.forms.specs.Fits.{KeepsTo, fault, FirstFault, first_failing, count_fits, form_fits, kind_fits, way_fits_in, way_fits, within_limits, every, place_fits, name_above}
+use Rattle.forms.specs.Fits.{KeepsTo, fault, FirstFault, count_fits, form_fits, first_failing, kind_fits, way_fits_in, way_fits, within_limits, every, place_fits, name_above}
 use Rattle.forms.specs.Layout.{room_kinds, room_ways, row_length, kinds_count, ways_count, way_from, way_start, form_in, way_in, place_in, name_in, kind_in, mark_in}
-use Rattle.forms.proofs.Every.{every_at, first_failing_fails}
+use Rattle.forms.proofs.Every.{every_at, every_from, every_off, first_failing_here, first_failing_fails}
 use Rattle.forms.proofs.Parts.{kinds_of_form, ways_count_of_form, way_of_form, place_of_way}
 
 -- The row is long enough, and there are some kinds and not too many.
@@ -44,7 +44,7 @@ unfolding way_fits_in
 way_fitting room row k w h l = every_at (way_fits_in room row k) (ways_count room row k) w (kind_parts room row k h).1 l
 
 -- A way keeps to the limits, and each of its places is one.
-way_parts : (n : ℕ) (row : List ℕ) (at : ℕ) → way_fits n row at ≡ true →
+pub way_parts : (n : ℕ) (row : List ℕ) (at : ℕ) → way_fits n row at ≡ true →
     (within_limits n (shape (way_from row at)) ≡ true)
     × (every (place_fits n row at) (length (places_of (way_from row at))) ≡ true)
 unfolding way_fits
@@ -151,6 +151,33 @@ place_there room row k w i h l m j =
       is = ap (λ x. get_or (places_of x) i no_place) c.is ∙ place_of_way (get_or row at 0) row at i no_place i-there;
       fits = placed n row at i (place_fitting n row at i c.fits i-there);
     }
+
+-- A row whose count of kinds does not fit is no form, and the place to tell is the number of kinds that it should have room for.
+pub uncounted : (room : Room) (row : List ℕ) (p : ℕ) → count_fits room row ≡ false → p ≡ room_kinds room →
+    (form_fits room row ≡ false) × (p ≡ fault room row) × FirstFault room row p
+unfolding form_fits fault
+uncounted room row p h e = (rw h, rw h e, inl (h, e))
+
+-- A row of which kind k is the first at fault.
+pub misfit : (room : Room) (row : List ℕ) (k place : ℕ) → count_fits room row ≡ true → place ≡ k → k < kinds_count row →
+    kind_fits room row k ≡ false → ((i : ℕ) → i < k → kind_fits room row i ≡ true) →
+    (form_fits room row ≡ false) × (place ≡ fault room row) × FirstFault room row place
+unfolding form_fits fault
+misfit room row k place h e l off before =
+    let p = kind_fits room row in
+    let n = kinds_count row in
+    rw e (
+      rw h (every_off p n k l off),
+      rw h (sym (first_failing_here p n k (every_from p k before) off l)),
+      inr (h, l, off, before),
+    )
+
+-- A row that counts its kinds rightly, each of which fits, is a form.
+pub all_fit : (room : Room) (row : List ℕ) → count_fits room row ≡ true →
+    ((k : ℕ) → k < kinds_count row → kind_fits room row k ≡ true) → form_fits room row ≡ true
+unfolding form_fits
+all_fit room row h each =
+    and_from (count_fits room row) (every (kind_fits room row) (kinds_count row)) h (every_from (kind_fits room row) (kinds_count row) each)
 
 -- A part that fails where another passes.
 and_false : (x y : Bool) → x ≡ true → (x && y) ≡ false → y ≡ false

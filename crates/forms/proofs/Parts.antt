@@ -1,6 +1,7 @@
 -- The parts of the form in a row: how many, and which.
-use Rattle.std.proofs.Common.{◌≡◌, ℕ, zero, suc, ◌+◌, ◌<◌, List, [], length, get_or, sym, refl, ap, ◌∙◌, arith}
-use Rattle.std.proofs.lemmas.List.FromFn.{length-map-range_with_len, get_or-map-range_with_len}
+use Rattle.std.proofs.Common.{◌≡◌, ℕ, zero, suc, ◌+◌, ◌<◌, ◌≤◌, List, [], length, get_or, take, map, sym, refl, ap, ◌∙◌, arith}
+use Rattle.std.proofs.lemmas.List.{length-take-le, length-map, get_or-take, get_or-map, ext_get_or}
+use Rattle.std.proofs.lemmas.List.FromFn.{length-map-range_with_len, get_or-map-range_with_len, fill_by_all}
 use Rattle.forms.specs.declared.room.Room.{Room}
 use Rattle.forms.specs.declared.way.Place.{Place}
 use Rattle.forms.specs.declared.way.Way.TheVariants.{Record}
@@ -14,6 +15,11 @@ length_listed f n = length-map-range_with_len f 0 n
 pub getD_listed : {X : Type 0} → (f : ℕ → X) (n i : ℕ) (d : X) → i < n → get_or (listed f n) i d ≡ f i
 unfolding listed
 getD_listed f n i d h = get_or-map-range_with_len f 0 n i i d h (omega arith)
+
+pub listed_same : {X : Type 0} → (f g : ℕ → X) (n : ℕ) (d : X) → ((i : ℕ) → i < n → f i ≡ g i) → listed f n ≡ listed g n
+unfolding listed
+listed_same f g n d h =
+    fill_by_all g (listed f n) n d (length_listed f n) (λ k l. getD_listed f n k d l ∙ h k l)
 
 pub kinds_of_form : (room : Room) (row : List ℕ) → length (form_in room row) ≡ kinds_count row
 unfolding form_in
@@ -60,3 +66,12 @@ place_of_way (suc zero) row at i d h = absurd (omega arith)
 place_of_way (suc (suc t)) row at i d h =
     let n = get_or row (at + 1) 0 in
     getD_listed (place_in row at) n i d (omega (arith, length_listed (place_in row at) n))
+
+-- What the first n of a list are read as, one by one.
+pub map_taken : {X Y : Type 0} (g : X → Y) (xs : List X) (ys : List Y) (n : ℕ) (d : X) (e : Y) → n ≤ length xs → length ys ≡ n →
+    ((i : ℕ) → i < n → g (get_or xs i d) ≡ get_or ys i e) → map g (take n xs) ≡ ys
+map_taken g xs ys n d e h l same =
+    let long : length (take n xs) ≡ n = length-take-le n xs h in
+    ext_get_or e (map g (take n xs)) ys (omega (arith, length-map (take n xs) g)) λ i lt.
+    let m : i < n = omega (arith, length-map (take n xs) g) in
+    get_or-map g (take n xs) i d e (omega arith) ∙ (ap g (get_or-take n xs i d m) ∙ same i m)

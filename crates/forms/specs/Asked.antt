@@ -1,8 +1,10 @@
 -- What is answered where one form is asked about a kind, or two forms about one kind each: the kinds, or the first thing that
 -- is wrong, in the order of the refusals' numbers. Assumes nothing.
 use Rattle.std.specs.Prelude.{◌≡◌, ℕ, ◌<◌, Bool, true, cond, List, length, Ok, Err, Result, nat_lt}
+use Rattle.papers.specs.declared.refusal.Refusal.{Refusal}
 use Rattle.forms.specs.declared.room.Room.{Room}
 use Rattle.forms.specs.declared.room.Room.TheVariants.{Plain}
+use Rattle.forms.specs.declared.view.Asked.{Asked}
 use Rattle.forms.specs.Fits.{form_fits, fault}
 use Rattle.forms.specs.Layout.{form_in}
 
@@ -29,3 +31,12 @@ two_asked one two k j =
     (refuse_unless (nat_lt k (length (form_in Plain one))) 3 k
     (refuse_unless (nat_lt j (length (form_in Plain two))) 3 j
     (Ok (k, j)))))
+
+-- The answer for one form and for two, with the kinds alone.
+abbrev pub one_kind : Result Asked Refusal → Result ℕ Refusal
+one_kind (Ok asked) = Ok asked.kind
+one_kind (Err e) = Err e
+
+abbrev pub two_kinds : Result (Asked × Asked) Refusal → Result (ℕ × ℕ) Refusal
+two_kinds (Ok asked) = Ok (asked.0.kind, asked.1.kind)
+two_kinds (Err e) = Err e

@@ -1,6 +1,7 @@
 -- Which rows are forms, and the place at fault in a row that is none. Assumes nothing.
 use Rattle.std.specs.Prelude.{◌≡◌, ℕ, zero, suc, ◌-◌, ◌^◌, ◌<◌, ◌≤◌, Bool, true, false, cond, ◌&&◌, ◌||◌, ◌⊎◌, List, length, ◌==◌, nat_le, nat_lt, slice_index}
 use Rattle.forms.specs.declared.room.Room.{Room}
+use Rattle.forms.specs.declared.way.Place.{Place}
 use Rattle.forms.specs.declared.way.Way.{Way as Shape}
 use Rattle.forms.specs.declared.way.Way.TheVariants.{Number, List as ListOf, Record}
 use Rattle.forms.specs.Form.{places_of, shape}
@@ -25,6 +26,10 @@ unfoldable pub place_fits : ℕ → List ℕ → ℕ → ℕ → Bool
 place_fits n row at i =
     nat_le (mark_in row at i) 1 && (nat_lt (kind_in row at i) n && (nat_lt (name_in row at i) (2 ^ 32) && name_above row at i))
 
+-- The same limits of a place, by its three numbers, its name's order aside.
+abbrev pub place_within : ℕ → List ℕ → Bool
+place_within n numbers = nat_le (slice_index numbers 2) 1 && (nat_lt (slice_index numbers 1) n && nat_lt (slice_index numbers 0) (2 ^ 32))
+
 -- The limits of a way in a form of n kinds, its places aside.
 abbrev pub within_limits : ℕ → Shape → Bool
 within_limits n (Number from to) = nat_lt from (2 ^ 32) && nat_lt to (2 ^ 32)
@@ -36,6 +41,10 @@ abbrev pub KeepsTo : ℕ → Shape → Type 0
 KeepsTo n (Number from to) = (from < 2 ^ 32) × (to < 2 ^ 32)
 KeepsTo n (ListOf kind least most) = (kind < n) × (least ≤ 16) × (most ≤ 16)
 KeepsTo n (Record places) = places ≤ 4
+
+-- The limits of a place in a form of n kinds, as orders.
+abbrev pub PlaceKeepsTo : ℕ → Place → Type 0
+PlaceKeepsTo n p = (p.name < 2 ^ 32) × (p.kind < n)
 
 -- The way that begins at `at`, in a form of n kinds: its tag is known, and it and its places keep to the limits.
 unfoldable pub way_fits : ℕ → List ℕ → ℕ → Bool

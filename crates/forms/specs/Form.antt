@@ -1,5 +1,7 @@
 -- Forms: what they are, and what is asked of them. Assumes nothing.
 use Rattle.std.specs.Prelude.{ℕ, ◌^◌, ◌<◌, ◌≤◌, Bool, true, false, ◌&&◌, List, [], ◌∷◌, length, get_or, nat_lt, slice_index_or}
+use Rattle.papers.specs.declared.shape.Shape.{Shape as PaperShape}
+use Rattle.papers.specs.declared.shape.Shape.TheVariants.{Number as NumberShape, List as ListShape, Record as RecordShape}
 use Rattle.forms.specs.declared.way.Place.{Place}
 use Rattle.forms.specs.declared.way.Way.{Way as Shape}
 use Rattle.forms.specs.declared.way.Way.TheVariants.{Number, List as ListOf, Record}
@@ -40,6 +42,12 @@ abbrev pub shape : Way → Shape
 shape (number a b) = Number a b
 shape (list k a b) = ListOf k a b
 shape (record_of ps) = Record (length ps)
+
+-- The shape of the papers that it takes.
+abbrev pub shape_of : Shape → PaperShape
+shape_of (Number a b) = NumberShape
+shape_of (ListOf k a b) = ListShape
+shape_of (Record n) = RecordShape
 
 abbrev pub shape_places : Shape → ℕ
 shape_places (Number a b) = 0

@@ -63,6 +63,10 @@ unfoldable pub place_in : List ℕ → ℕ → ℕ → Place
 place_in row at i =
     record { name = name_in row at i; kind = kind_in row at i; must = (mark_in row at i == 1) }
 
+-- The place that three numbers say.
+abbrev pub place_by : List ℕ → Place
+place_by numbers = record { name = slice_index numbers 0; kind = slice_index numbers 1; must = (slice_index numbers 2 == 1) }
+
 -- The way that begins at `at`, by its first number.
 unfoldable pub way_by : ℕ → List ℕ → ℕ → Way
 way_by zero row at = number (slice_index row (at + 1)) (slice_index row (at + 2))

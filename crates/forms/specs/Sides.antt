@@ -1,5 +1,5 @@
 -- Of two forms that are refused, the one that is at fault first. Assumes nothing.
-use Rattle.std.specs.Prelude.{◌≡◌, ℕ, ◌<◌, ◌≤◌, true, false, ◌⊎◌, List, length}
+use Rattle.std.specs.Prelude.{◌≡◌, ℕ, ◌<◌, ◌≤◌, true, false, ◌⊎◌, List, length, codes}
 use Rattle.forms.specs.declared.room.Room.TheVariants.{Plain}
 use Rattle.forms.specs.declared.blame.Side.{Side}
 use Rattle.forms.specs.declared.blame.Side.TheVariants.{First, Second}
@@ -12,3 +12,8 @@ Speaks First one two k j = (form_fits Plain one ≡ false) ⊎ (length (form_in 
 Speaks Second one two k j =
     (form_fits Plain one ≡ true)
     × ((form_fits Plain two ≡ false) ⊎ ((k < length (form_in Plain one)) × (length (form_in Plain two) ≤ j)))
+
+-- What is printed of it.
+abbrev pub side_name : Side → List ℕ
+side_name First = codes "first"
+side_name Second = codes "second"

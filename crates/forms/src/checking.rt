@@ -1,10 +1,13 @@
 // Whether a row is a form, and where it is not.
-ghost use Rattle.std.specs.Prelude.{◌≡◌, ◌+◌, ◌<◌, ◌≤◌, false, length};
-ghost use Rattle.forms.specs.Fits.{every, first_failing, place_fits, name_above, within_limits, way_fits, way_fits_in, kind_fits, count_fits, form_fits, fault, FirstFault};
-ghost use Rattle.forms.specs.Layout.{row_length, room_kinds, room_ways, kinds_count};
+ghost use Rattle.std.specs.Prelude.{◌≡◌, ℕ, ◌<◌, ◌≤◌, true, false, MatchOption, IfOk, IfErr};
+ghost use Rattle.std.specs.List.{list_all};
+ghost use Rattle.forms.specs.Fits.{every, place_fits, place_within, within_limits, way_fits, kind_fits, form_fits, fault, FirstFault};
+ghost use Rattle.forms.specs.Form.{proper, Closed, Bounded};
+ghost use Rattle.forms.specs.Layout.{form_in, room_kinds, room_ways, kinds_count};
 
-use crate::layout;
+use crate::layout::{self, Laid, PLACE, WAY};
 use crate::room::Room;
+use crate::view::FormView;
 use crate::way::Way;
 
 // Numbers and names are below this.
@@ -13,84 +16,60 @@ const LIMIT: u64 = 1 << 32;
 const LONGEST: usize = 16;
 // How many places a record may have.
 const PLACES: usize = 4;
-// The last of the tags.
-const RECORD: u64 = 2;
 
-// Whether the row is a form.
-pub(crate) fn is_form(row: &[u64], room: Room) -> bool
-    ensures { result ≡ form_fits room row.now }
-{
-    count_fits(row, room) && first_misfit(row, room) as u64 == layout::kinds_count(row)
-}
-
-// The place to tell of a row that is no form.
-pub(crate) fn fault_of(row: &[u64], room: Room) -> u64
-    ensures is { result ≡ fault room row.now }
-    ensures first { form_fits room row.now ≡ false → FirstFault room row.now result }
-{
-    if count_fits(row, room) {
-        first_misfit(row, room) as u64
-    } else {
-        room.kinds() as u64
-    }
-}
-
-// Whether the row is long enough, and has room for its kinds.
-fn count_fits(row: &[u64], room: Room) -> bool
-    ensures { result ≡ count_fits room row.now }
-{
-    if row.len() < layout::row_length(room) {
-        return false;
-    }
-    let kinds = layout::kinds_count(row);
-    1 <= kinds && kinds <= room.kinds() as u64
-}
-
-// The first kind at fault, or the number of kinds.
-fn first_misfit(row: &[u64], room: Room) -> usize
-    requires { (row_length room ≤ length row.now) × (kinds_count row.now ≤ room_kinds room) }
-    ensures { result ≡ first_failing (kind_fits room row.now) (kinds_count row.now) }
-{
-    let kinds = layout::kinds_count(row) as usize;
-    for kind in 0..kinds {
-        if !kind_fits(row, room, kind) {
-            return kind;
+impl<'a> FormView<'a> {
+    // The view of a row, or the place that the refusal of one that is no form carries: the kind at fault, or, if the row is too short
+    // or counts its kinds wrongly, the number of kinds that it should have room for.
+    pub fn of(row: &'a [u64], room: Room) -> Result<FormView<'a>, u64>
+        ensures row { IfOk result (λ form. form.row ≡ row.entry) }
+        ensures room { IfOk result (λ form. form.room ≡ room) }
+        ensures fits { IfOk result (λ _. form_fits room row.now ≡ true) }
+        ensures proper { IfOk result (λ _. proper (form_in room row.now) ≡ true) }
+        ensures closed { IfOk result (λ _. Closed (form_in room row.now)) }
+        ensures bounded { IfOk result (λ _. Bounded (room_kinds room) (room_ways room) (form_in room row.now)) }
+        ensures fault { IfErr result (λ place. (form_fits room row.now ≡ false) × (place ≡ fault room row.now) × FirstFault room row.now place) }
+    {
+        let Some(laid) = Laid::of(row, room) else {
+            return Err(room.kinds() as u64);
+        };
+        match first_misfit(&laid) {
+            Some(kind) => Err(kind as u64),
+            None => Ok(FormView::new(row, room)),
         }
     }
-    kinds
+}
+
+// The first kind at fault.
+fn first_misfit(laid: &Laid<'_>) -> Option<usize>
+    ensures { MatchOption result ((k : ℕ) → k < kinds_count laid.now.row.now → kind_fits laid.now.room laid.now.row.now k ≡ true) (λ i. (i < kinds_count laid.now.row.now) × (kind_fits laid.now.room laid.now.row.now i ≡ false) × ((k : ℕ) → k < i → kind_fits laid.now.room laid.now.row.now k ≡ true)) }
+{
+    (0..laid.kinds()).find(|kind| !kind_fits(laid, *kind))
 }
 
 // Whether there is room for a kind's ways, and each is one.
-fn kind_fits(row: &[u64], room: Room, kind: usize) -> bool
-    requires { (row_length room ≤ length row.now) × (kind < room_kinds room) }
-    ensures { result ≡ kind_fits room row.now kind }
+fn kind_fits(laid: &Laid<'_>, kind: usize) -> bool
+    requires { kind < room_kinds laid.now.room }
+    ensures { result ≡ kind_fits laid.now.room laid.now.row.now kind }
 {
-    let ways = layout::ways_count(row, room, kind) as usize;
-    ways <= room.ways() && ways_fit(row, room, kind, ways)
+    let kinds = laid.kinds();
+    laid.ways(kind).is_some_and(|ways| ways_fit(ways, kinds))
 }
 
-fn ways_fit(row: &[u64], room: Room, kind: usize, ways: usize) -> bool
-    requires { (row_length room ≤ length row.now) × ((kind < room_kinds room) × (ways ≤ room_ways room)) }
-    ensures { result ≡ every (way_fits_in room row.now kind) ways }
+// Whether each is a way.
+fn ways_fit(ways: &[[u64; WAY]], kinds: usize) -> bool
+    ensures { result ≡ list_all (λ way. way_fits kinds way 0) ways.now }
 {
-    let kinds = layout::kinds_count(row) as usize;
-    for way in 0..ways {
-        if !way_fits(row, layout::way_start(room, kind, way), kinds) {
-            return false;
-        }
-    }
-    true
+    ways.iter().all(|way| way_fits(way, kinds))
 }
 
-// Whether the way that begins at `at` is one.
-fn way_fits(row: &[u64], at: usize, kinds: usize) -> bool
-    requires { at + 16 ≤ length row.now }
-    ensures { result ≡ way_fits kinds row.now at }
+// Whether the way keeps to the limits, and its places do.
+fn way_fits(way: &[u64; WAY], kinds: usize) -> bool
+    ensures { result ≡ way_fits kinds way.now 0 }
 {
-    let way = layout::way_at(row, at);
-    layout::tag_at(row, at) <= RECORD
-        && within_limits(way, kinds)
-        && places_fit(row, at, way.places(), kinds)
+    let shown = layout::way_of(way);
+    layout::shape_of(way).is_ok()
+        && within_limits(shown, kinds)
+        && places_fit(way, shown.places(), kinds)
 }
 
 // Whether a way keeps to the limits, its places aside.
@@ -104,34 +83,20 @@ fn within_limits(way: Way, kinds: usize) -> bool
     }
 }
 
-fn places_fit(row: &[u64], at: usize, places: usize, kinds: usize) -> bool
-    requires { (at + 16 ≤ length row.now) × (places ≤ 4) }
-    ensures { result ≡ every (place_fits kinds row.now at) places }
+// Whether the first so many places of a record are such, each named above the one before it.
+fn places_fit(way: &[u64; WAY], places: usize, kinds: usize) -> bool
+    requires { places ≤ 4 }
+    ensures { result ≡ every (place_fits kinds way.now 0) places }
 {
-    for index in 0..places {
-        if !place_fits(row, at, index, kinds) {
-            return false;
-        }
-    }
-    true
+    let places = &layout::places(way)[..places];
+    places.iter().all(|place| place_within(place, kinds))
+        && places.is_sorted_by(|before, next| before[0] < next[0])
 }
 
-// Whether a place of the record that begins at `at` is one.
-fn place_fits(row: &[u64], at: usize, index: usize, kinds: usize) -> bool
-    requires { (at + 16 ≤ length row.now) × (index < 4) }
-    ensures { result ≡ place_fits kinds row.now at index }
+// Whether a place keeps to the limits, its name's order aside.
+fn place_within(place: &[u64; PLACE], kinds: usize) -> bool
+    ensures { result ≡ place_within kinds place.now }
 {
-    let place = layout::place_at(row, at, index);
-    if layout::mark_at(row, at, index) > 1 || place.kind >= kinds {
-        return false;
-    }
-    place.name < LIMIT && name_above(row, at, index)
-}
-
-// Whether a place's name is above that of the place before it.
-fn name_above(row: &[u64], at: usize, index: usize) -> bool
-    requires { (at + 16 ≤ length row.now) × (index < 4) }
-    ensures { result ≡ name_above row.now at index }
-{
-    index == 0 || layout::place_at(row, at, index - 1).name < layout::place_at(row, at, index).name
+    let [name, kind, mark] = *place;
+    mark <= 1 && kind < kinds as u64 && name < LIMIT
 }

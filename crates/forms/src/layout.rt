@@ -1,22 +1,33 @@
 // Where the parts of a form lie in its row, and reading them there: every offset stands here.
-ghost use Rattle.std.specs.Prelude.{◌≡◌, ◌+◌, ◌^◌, ◌<◌, ◌≤◌, length, slice_index};
+ghost use Rattle.std.specs.Prelude.{◌≡◌, ℕ, ◌+◌, ◌*◌, ◌<◌, ◌≤◌, true, false, [], length, take, drop, MatchOption, MatchResult, slice_index, slice_index_or};
+ghost use Rattle.papers.specs.Telling.{shape_number};
 ghost use Rattle.forms.specs.Form.{shape};
-ghost use Rattle.forms.specs.Layout.{row_length, kind_start, way_start, kinds_count, ways_count, mark_in, place_in, place_start, way_from, block_length, room_kinds, room_ways};
+ghost use Rattle.forms.specs.Fits.{count_fits};
+ghost use Rattle.forms.specs.Layout.{row_length, way_start, kinds_count, ways_count, place_by, way_from, block_length, room_kinds, room_ways};
 
 use crate::room::Room;
 use crate::way::{Place, Way};
+use papers::{NoShape, Shape};
 
 // How many numbers a way has.
-const WAY: usize = 16;
-
+pub(crate) const WAY: usize = 16;
 // Where in a record its places begin.
 const PLACES: usize = 4;
-
 // How many numbers a place has.
-const PLACE: usize = 3;
+pub(crate) const PLACE: usize = 3;
+
+// A row that is long enough, and counts at least one kind and not more than it has room for.
+#[derive(Clone, Copy)]
+pub(crate) struct Laid<'a> {
+    pub(crate) row: &'a [u64],
+    pub(crate) room: Room,
+    ghost long: { row_length room ≤ length row.now },
+    ghost some: { 1 ≤ kinds_count row.now },
+    ghost few: { kinds_count row.now ≤ room_kinds room },
+}
 
 // How many numbers a form's row has at least.
-pub(crate) fn row_length(room: Room) -> usize
+fn row_length(room: Room) -> usize
     ensures { result ≡ row_length room }
 {
     1 + room.kinds() * block(room)
@@ -29,93 +40,79 @@ fn block(room: Room) -> usize
     1 + WAY * room.ways()
 }
 
-// Where a kind begins: with the count of its ways.
-fn kind_start(room: Room, kind: usize) -> usize
-    requires { kind < room_kinds room }
-    ensures { result ≡ kind_start room kind }
-{
-    1 + kind * block(room)
+impl<'a> Laid<'a> {
+    pub(crate) fn of(row: &'a [u64], room: Room) -> Option<Laid<'a>>
+        ensures { MatchOption result (count_fits room row.now ≡ false) (λ laid. (count_fits room row.now ≡ true) × (laid.row ≡ row.entry) × (laid.room ≡ room)) }
+    {
+        if row.len() < row_length(room) || row[0] < 1 || row[0] > room.kinds() as u64 {
+            return None;
+        }
+        Some(Laid { row, room })
+    }
+
+    // How many kinds there are.
+    pub(crate) fn kinds(&self) -> usize
+        ensures { result ≡ kinds_count self.now.row.now }
+    {
+        self.row[0] as usize
+    }
+
+    // The ways of a kind, if there is room for as many as it says that it has.
+    pub(crate) fn ways(&self, kind: usize) -> Option<&'a [[u64; WAY]]>
+        requires { kind < room_kinds self.now.room }
+        ensures { MatchOption result (room_ways self.now.room < ways_count self.now.room self.now.row.now kind) (λ ways. (length ways.now ≡ ways_count self.now.room self.now.row.now kind) × (length ways.now ≤ room_ways self.now.room) × ((w : ℕ) → w < length ways.now → slice_index_or ways.now w [] ≡ take 16 (drop (way_start self.now.room kind w) self.now.row.now))) }
+    {
+        let block = block(self.room);
+        let start = 1 + kind * block;
+        let ways = self.row[start + 1..start + block].as_chunks::<WAY>().0;
+        ways.get(..self.row[start] as usize)
+    }
 }
 
-// Where a way of a kind begins.
-pub(crate) fn way_start(room: Room, kind: usize, way: usize) -> usize
-    requires { (kind < room_kinds room) × (way < room_ways room) }
-    ensures is { result ≡ way_start room kind way }
-    ensures within { result + 16 ≤ row_length room }
+// The shape of the papers that a way takes, if its first number stands for one.
+pub(crate) fn shape_of(way: &[u64; WAY]) -> Result<Shape, NoShape>
+    ensures { MatchResult result (λ shape. shape_number shape ≡ slice_index way.now 0) (λ _. 2 < slice_index way.now 0) }
 {
-    kind_start(room, kind) + 1 + WAY * way
+    Shape::try_from(way[0])
 }
 
-// How many kinds a row says that it has.
-pub(crate) fn kinds_count(row: &[u64]) -> u64
-    requires { 0 < length row.now }
-    ensures { result ≡ kinds_count row.now }
+// The way that the numbers say. One whose first number stands for no shape reads as a record: that it stands for one is part of the
+// check, so that reading asks nothing of the row.
+pub(crate) fn way_of(way: &[u64; WAY]) -> Way
+    ensures { result ≡ shape (way_from way.now 0) }
 {
-    row[0]
-}
-
-// How many ways a kind says that it has.
-pub(crate) fn ways_count(row: &[u64], room: Room, kind: usize) -> u64
-    requires { (row_length room ≤ length row.now) × (kind < room_kinds room) }
-    ensures { result ≡ ways_count room row.now kind }
-{
-    row[kind_start(room, kind)]
-}
-
-// What the way that begins at `way` is: 0 a number, 1 a list, 2 a record.
-pub(crate) fn tag_at(row: &[u64], way: usize) -> u64
-    requires { way + 16 ≤ length row.now }
-    ensures { result ≡ slice_index row.now way }
-{
-    row[way]
-}
-
-// The way that begins at `way`.
-pub(crate) fn way_at(row: &[u64], way: usize) -> Way
-    requires { way + 16 ≤ length row.now }
-    ensures { result ≡ shape (way_from row.now way) }
-{
-    match row[way] {
-        0 => Way::Number {
-            from: row[way + 1],
-            to: row[way + 2],
+    match shape_of(way) {
+        Ok(Shape::Number) => Way::Number {
+            from: way[1],
+            to: way[2],
         },
-        1 => Way::List {
-            kind: row[way + 1] as usize,
-            least: row[way + 2] as usize,
-            most: row[way + 3] as usize,
+        Ok(Shape::List) => Way::List {
+            kind: way[1] as usize,
+            least: way[2] as usize,
+            most: way[3] as usize,
         },
-        _ => Way::Record {
-            places: row[way + 1] as usize,
+        Ok(Shape::Record) | Err(_) => Way::Record {
+            places: way[1] as usize,
         },
     }
 }
 
-// Where a place of the record that begins at `way` lies.
-fn place_start(way: usize, index: usize) -> usize
-    requires { (way < 2 ^ 63) × (index < 4) }
-    ensures { result ≡ place_start way index }
+// The room for the places of a record: name, kind and mark of each.
+pub(crate) fn places(way: &[u64; WAY]) -> &[[u64; PLACE]]
+    ensures room { length result.now ≡ 4 }
+    ensures places { (i : ℕ) → i < 4 → slice_index_or result.now i [] ≡ take 3 (drop (4 + 3 * i) way.now) }
 {
-    way + PLACES + PLACE * index
+    way[PLACES..].as_chunks::<PLACE>().0
 }
 
-// A place of the record that begins at `way`.
-pub(crate) fn place_at(row: &[u64], way: usize, index: usize) -> Place
-    requires { (way + 16 ≤ length row.now) × (index < 4) }
-    ensures { result ≡ place_in row.now way index }
+// The place that three numbers say.
+pub(crate) fn place_of(numbers: &[u64; PLACE]) -> Place
+    ensures { result ≡ place_by numbers.now }
 {
-    let at = place_start(way, index);
+    let [name, kind, mark] = *numbers;
     Place {
-        name: row[at],
-        kind: row[at + 1] as usize,
-        must: row[at + 2] == 1,
+        name,
+        kind: kind as usize,
+        must: mark == 1,
     }
-}
-
-// Whether a place must be filled: 0 or 1.
-pub(crate) fn mark_at(row: &[u64], way: usize, index: usize) -> u64
-    requires { (way + 16 ≤ length row.now) × (index < 4) }
-    ensures { result ≡ mark_in row.now way index }
-{
-    row[place_start(way, index) + 2]
 }

@@ -12,10 +12,11 @@ mod layout;
 mod reading;
 mod room;
 mod view;
+mod walking;
 mod way;
 
 pub use asked::{kinds_of, one_form, two_forms};
 pub use blame::{Side, side_of};
 pub use room::Room;
-pub use view::FormView;
+pub use view::{Asked, FormView, Places, WayView, Ways};
 pub use way::{Place, Way};

@@ -2,7 +2,7 @@
 ghost use Rattle.std.specs.Prelude.{◌≡◌};
 ghost use Rattle.forms.specs.Layout.{room_kinds, room_ways};
 
-#[derive(Clone, Copy)]
+#[derive(Clone, Copy, Debug, PartialEq, Eq)]
 pub enum Room {
     // A form as it is lent: 4 kinds of 3 ways.
     Plain,
@@ -12,6 +12,7 @@ pub enum Room {
     Either,
 }
 
+// Two columns of one table, each asked for by itself.
 impl Room {
     pub(crate) fn kinds(self) -> usize
         ensures { result ≡ room_kinds self }

@@ -1,9 +1,11 @@
 // The parts of a form, one at a time.
 ghost use Rattle.std.specs.Prelude.{◌≡◌};
-ghost use Rattle.forms.specs.Form.{shape_places};
+ghost use Rattle.forms.specs.Form.{shape_of, shape_places};
+
+use papers::Shape;
 
 // One field that a record may have: its name, the kind of paper that stands there, and whether it must be filled.
-#[derive(Clone, Copy)]
+#[derive(Clone, Copy, Debug, PartialEq, Eq)]
 pub struct Place {
     pub name: u64,
     pub kind: usize,
@@ -11,7 +13,7 @@ pub struct Place {
 }
 
 // One way in which a paper of a kind may look.
-#[derive(Clone, Copy)]
+#[derive(Clone, Copy, Debug, PartialEq, Eq)]
 pub enum Way {
     // A number in a range, both ends included.
     Number {
@@ -24,13 +26,24 @@ pub enum Way {
         least: usize,
         most: usize,
     },
-    // A record with so many places; `FormView::place` reads them.
+    // A record with so many places; `WayView::place` reads them.
     Record {
         places: usize,
     },
 }
 
 impl Way {
+    // The shape of the papers that it takes.
+    pub fn shape(self) -> Shape
+        ensures { result ≡ shape_of self }
+    {
+        match self {
+            Way::Number { .. } => Shape::Number,
+            Way::List { .. } => Shape::List,
+            Way::Record { .. } => Shape::Record,
+        }
+    }
+
     // How many places: none, unless it is a record.
     pub(crate) fn places(self) -> usize
         ensures { result ≡ shape_places self }

@@ -1,12 +1,12 @@
 // Prints a form in words.
 #![tactic(auto)]
 
+ghost use Rattle.std.specs.Prelude.{◌≤◌, length};
+
 mod words;
 
-use anyhow::anyhow;
-use forms::{FormView, Room, one_form};
-use programs::{finish, parse, row_of};
-use std::env;
+use forms::{Room, one_form};
+use programs::{Answer, Error, Program, row_of};
 use std::process::ExitCode;
 use words::print_form;
 
@@ -24,32 +24,31 @@ Options:
   --help        print this text
 ";
 
-// Whether the exit status is to be 0.
-fn run(rt: &HostRuntime) -> anyhow::Result<bool> {
-    let heap = rt.alloc();
-    let command = parse(heap, env::args(rt)?)?;
-    if command.help {
-        rt.print(HELP)?;
-        return Ok(true);
-    }
-    let words = command.words.as_slice();
-    if words.len() != 1 {
-        return Err(anyhow!("it takes one form: see --help"));
-    }
+const PROGRAM: Program = Program {
+    name: "inspect_form",
+    help: HELP,
+    takes: "it takes one form",
+    least: 1,
+    most: 1,
+};
+
+// Prints the form in the file that is named.
+fn inspect(rt: &HostRuntime, words: &[String]) -> Result<Answer, Error>
+    requires { 1 ≤ length words.now }
+{
     let row = row_of(rt, words[0].as_str())?;
-    if let Err(refusal) = one_form(&row, Room::Plain, 0) {
-        println!(rt; "{refusal}")?;
-        return Ok(!command.exit_code);
+    match one_form(&row, Room::Plain, 0) {
+        Ok(asked) => {
+            print_form(rt, asked.form)?;
+            Ok(Answer::Good)
+        }
+        Err(refusal) => {
+            println!(rt; "{refusal}")?;
+            Ok(Answer::Bad)
+        }
     }
-    print_form(rt, &FormView::new(&row, Room::Plain))?;
-    Ok(true)
 }
 
-// `finish` has told the error.
 fn main(rt: HostRuntime) -> ExitCode {
-    let result = run(&rt);
-    match finish(&rt, "inspect_form", result) {
-        Ok(()) => ExitCode::SUCCESS,
-        Err(_) => ExitCode::FAILURE,
-    }
+    PROGRAM.run(&rt, inspect)
 }

@@ -1,11 +1,11 @@
 -- What a table holds: the pairs found, each with its node. Assumes nothing: these are definitions.
-use Rattle.std.specs.Prelude.{◌≡◌, ℕ, zero, suc, ◌+◌, ◌^◌, ◌<◌, Bool, true, List, [], take, bit_or, slice_index, slice_index_or, slice_set}
+use Rattle.std.specs.Prelude.{◌≡◌, ℕ, zero, suc, ◌+◌, ◌^◌, ◌<◌, Bool, true, List, [], length, bit_or, slice_index, slice_index_or, slice_set}
+use Rattle.arrayvec.specs.ArrayVec.{ArrayVec}
 use Rattle.papers.specs.Paper.{Paper, num}
 use Rattle.taking.specs.Masks.{bit, test}
 use Rattle.pairs.specs.declared.table.Found.{Found}
 use Rattle.pairs.specs.declared.table.Table.{Table}
 use Rattle.pairs.specs.declared.minimal.Mark.{Mark}
-use Rattle.pairs.specs.declared.minimal.Minimal.{Minimal}
 use Rattle.pairs.specs.Looks.{Inside}
 use Rattle.pairs.specs.Nodes.{told}
 use Rattle.pairs.specs.Rounds.{Marks}
@@ -21,9 +21,12 @@ Marked T a t = test (found_at T.found a).sets t ≡ true
 abbrev pub node_of : Table → ℕ → ℕ → ℕ
 node_of T a t = slice_index (found_at T.found a).nodes t
 
--- The papers of its nodes.
+-- How many nodes it has, and their papers.
+abbrev pub count : Table → ℕ
+count T = length T.nodes.items
+
 abbrev pub papers_of : Table → List Paper
-papers_of T = told (take T.count T.nodes)
+papers_of T = told T.nodes.items
 
 abbrev pub paper_of : Table → ℕ → Paper
 paper_of T i = slice_index_or (papers_of T) i (num 0)
@@ -42,16 +45,16 @@ pairs_found fs zero = 0
 pairs_found fs (suc n) = pairs_found fs n + how_many (test (found_at fs n).sets) 16
 
 -- What a round sees of a kind: these marks, each a set with its node.
-abbrev pub minimal_at : List Minimal → ℕ → Minimal
-minimal_at ms a = slice_index_or ms a (record { count = 0; marks = [] })
+abbrev pub minimal_at : List (ArrayVec Mark) → ℕ → List Mark
+minimal_at ms a = (slice_index_or ms a (record { items = [] })).items
 
-abbrev pub mark_at : Minimal → ℕ → Mark
-mark_at m i = slice_index_or m.marks i (record { set = 0; node = 0 })
+abbrev pub mark_at : List Mark → ℕ → Mark
+mark_at m i = slice_index_or m i (record { set = 0; node = 0 })
 
-abbrev pub ListedIn : Minimal → ℕ → Type 0
-ListedIn m t = (i : ℕ) × (i < m.count) × ((mark_at m i).set ≡ t)
+abbrev pub ListedIn : List Mark → ℕ → Type 0
+ListedIn m t = (i : ℕ) × (i < length m) × ((mark_at m i).set ≡ t)
 
-abbrev pub Listed : List Minimal → Marks
+abbrev pub Listed : List (ArrayVec Mark) → Marks
 Listed ms a t = ListedIn (minimal_at ms a) t
 
 -- With one set more, and its node.

@@ -3,16 +3,19 @@ ghost use Rattle.pairs.specs.Laws.{KindsByParts, RoundComplete, RoundSound, Roun
 ghost use Rattle.pairs.specs.Nodes.{Appending};
 
 // The kinds of a paper are a function of the kinds of its parts.
+#[tactic(auto, using(crate::proofs::Looking::kinds_by_parts))]
 pub fn kinds_by_parts()
     ensures { KindsByParts }
 {}
 
 // The round is complete: a pair that has a paper at most r + 1 deep is given over those that have one at most r deep.
+#[tactic(auto, using(crate::proofs::Rounding::round_complete))]
 pub fn round_complete()
     ensures { RoundComplete }
 {}
 
 // The round is sound: a pair that is given has a paper, one deeper at most.
+#[tactic(auto, using(crate::proofs::Rounding::round_sound))]
 pub fn round_sound()
     ensures { RoundSound }
 {}
@@ -59,11 +62,13 @@ pub fn empty_seen()
 {}
 
 // For every paper that only the one takes there is one that is no deeper than it, and no deeper than the bound.
+#[tactic(auto, using(crate::proofs::Deciding::flat_enough))]
 pub fn flat_enough()
     ensures { FlatEnough }
 {}
 
 // A node more is a paper more, and the papers before it stay as they are.
+#[tactic(auto, using(crate::proofs::Telling::appending))]
 pub fn appending()
     ensures { Appending }
 {}

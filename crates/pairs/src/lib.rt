@@ -5,6 +5,7 @@ mod finding;
 mod laws;
 mod minimal;
 mod node;
+mod pair;
 mod putting;
 mod round;
 mod table;

@@ -1,6 +1,7 @@
 // What has been found so far: which pairs of a kind of the first form and a set of kinds of the second have a paper, and the paper's node.
 
 use crate::node::{NODES, Node};
+use arrayvec::ArrayVec;
 
 // How many kinds the first form has at most.
 pub(crate) const KINDS: usize = 4;
@@ -14,17 +15,17 @@ pub(crate) const INSIDE: [u16; SETS] = [
     0x1111, 0x3333, 0x5555, 0xffff,
 ];
 
-// What was found of one kind: the family of its sets, and the node of each.
+// What was found of one kind: the family of its sets, and the node of each. The family is a mask, and no node of a set is an `Option`, since
+// whether any set inside another was found is then one `and`.
 #[derive(Clone, Copy)]
 pub(crate) struct Found {
     pub(crate) sets: u16,
     pub(crate) nodes: [u8; SETS],
 }
 
-// So many nodes at the front, each with its own pair; and what was found of each kind.
-#[derive(Clone, Copy)]
+// The nodes, each with its own pair; and what was found of each kind.
+#[derive(Drop)]
 pub struct Table {
-    pub count: usize,
-    pub nodes: [Node; NODES],
+    pub nodes: ArrayVec<Node, NODES>,
     pub(crate) found: [Found; KINDS],
 }

@@ -1,61 +1,43 @@
--- How deep papers are, step by step. Assumes nothing.
-use Rattle.std.proofs.Common.{◌≡◌, ℕ, suc, ◌≤◌, max, List, ◌∷◌, refl, arith}
-use Rattle.papers.specs.declared.reading.Start.TheVariants.{List as ListStart, Record}
-use Rattle.papers.specs.Reading.{done, into, read_list, read_record, read_paper}
+-- What is read is no deeper than its row is long, whatever is made of it. Assumes nothing.
+use Rattle.std.proofs.Common.{◌≡◌, ℕ, suc, ◌+◌, ◌^◌, ◌<◌, ◌≤◌, List, ◌∷◌, ◌++◌, length, refl, ap, ◌∙◌, subst, arith}
+use Rattle.std.proofs.lemmas.List.{length-append}
+use Rattle.papers.specs.declared.shape.Shape.TheVariants.{List as ListShape, Record}
+use Rattle.papers.specs.Reading.{done, into, read_paper}
 use Rattle.papers.specs.Paper.{Paper, num, items, fields, Papers, no_items, item, Fields, no_fields, field, deep, all_deep, fields_deep}
+use Rattle.papers.specs.Row.{row_of, rows_of, field_rows}
 use Rattle.papers.proofs.Outcomes.{into_done}
 use Rattle.papers.proofs.Standing.{paper_read}
-use Rattle.papers.proofs.Steps.{list_inside, record_inside}
+use Rattle.papers.proofs.Steps.{opens_list, opens_record}
+use Rattle.papers.proofs.Loops.{list_read, record_read}
 
--- how deep a number is
-abbrev pub flat : ℕ → ℕ
-flat v = 1
+mutual
+  unfolding deep row_of
 
-pub deep_num : (v : ℕ) → deep (num v) ≡ flat v
-unfolding deep
-deep_num v = refl
+  row_deep : (d : Paper) → deep d ≤ length (row_of d)
+  row_deep (num n) = omega arith
+  row_deep (items ds) = omega (arith, rows_deep ds)
+  row_deep (fields fs) = omega (arith, field_rows_deep fs)
 
-pub deep_items : (ds : Papers) → deep (items ds) ≡ suc (all_deep ds)
-unfolding deep
-deep_items ds = refl
+  rows_deep : (ds : Papers) → all_deep ds ≤ length (rows_of ds)
+  rows_deep no_items = omega arith
+  rows_deep (item d ds) = omega (arith, row_deep d, rows_deep ds, length-append (row_of d) (rows_of ds))
 
-pub deep_fields : (fs : Fields) → deep (fields fs) ≡ suc (fields_deep fs)
-unfolding deep
-deep_fields fs = refl
+  field_rows_deep : (fs : Fields) → fields_deep fs ≤ length (field_rows fs)
+  field_rows_deep no_fields = omega arith
+  field_rows_deep (field x d fs) = omega (arith, row_deep d, field_rows_deep fs, length-append (row_of d) (field_rows fs))
 
--- the deepest paper, where s is how deep those before them are
-abbrev pub deeper : ℕ → Papers → ℕ
-deeper s ds = max s (all_deep ds)
+-- so there is room for what is made of it
+module _ {X : Type 0} (of : Paper → X) (has_room : X → Type 0) (room : (d : Paper) → deep d < 2 ^ 64 → has_room (of d)) where
+  paper_room : (n : ℕ) (xs : List ℕ) (v : X) (rest : List ℕ) → length xs < 2 ^ 64 → into of (read_paper n xs) ≡ done v rest → has_room v
+  paper_room n xs v rest l e =
+      let p = into_done of (read_paper n xs) v rest e in
+      let s = paper_read n xs p.0 rest p.1 in
+      subst has_room p.2 (room p.0 (omega (arith, row_deep p.0, ap length s.row, length-append (row_of p.0) rest)))
 
-abbrev pub deeper_field : ℕ → Fields → ℕ
-deeper_field s fs = max s (fields_deep fs)
+  pub list_room : (n : ℕ) (xs : List ℕ) {v : X} {rest : List ℕ} → length xs + 1 < 2 ^ 64 → list_read of n xs ≡ done v rest → has_room v
+  list_room n xs {v} {rest} l e =
+      paper_room (suc n) (1 ∷ xs) v rest (omega arith) (opens_list of {n = suc n} {xs = 1 ∷ xs} {s = ListShape} (refl, refl) refl ∙ e)
 
-pub deeper_item : (s v u : ℕ) → u ≡ max s v → (d : Paper) → deep d ≡ v → (ds : Papers) → deeper s (item d ds) ≡ deeper u ds
-unfolding deep
-deeper_item s v u h d e ds = omega arith
-
-pub deeper_next : (s v u x : ℕ) → u ≡ max s v → (d : Paper) → deep d ≡ v → (fs : Fields) → deeper_field s (field x d fs) ≡ deeper_field u fs
-unfolding deep
-deeper_next s v u x h d e fs = omega arith
-
-pub deeper_none : (s : ℕ) → deeper s no_items ≡ s
-unfolding deep
-deeper_none s = omega arith
-
-pub deeper_field_none : (s : ℕ) → deeper_field s no_fields ≡ s
-unfolding deep
-deeper_field_none s = omega arith
-
--- what is read is no deeper than allowed
-paper_flat : (n : ℕ) (xs : List ℕ) (v : ℕ) (rest : List ℕ) → into deep (read_paper n xs) ≡ done v rest → v ≤ n
-paper_flat n xs v rest e =
-    let p = into_done deep (read_paper n xs) v rest e in
-    omega (arith, p.2, (paper_read n xs p.0 rest p.1).flat)
-
-pub list_flat : (n : ℕ) (xs : List ℕ) (v : ℕ) (rest : List ℕ) → into all_deep (read_list (read_paper n) xs) ≡ done v rest → v ≤ n
-list_flat n xs v rest e =
-    omega (arith, paper_flat (suc n) (1 ∷ xs) (suc v) rest (list_inside deep suc (suc n) n (1 ∷ xs) xs ListStart refl refl all_deep deep_items refl (done v rest) e))
-
-pub record_flat : (n : ℕ) (xs : List ℕ) (v : ℕ) (rest : List ℕ) → into fields_deep (read_record (read_paper n) xs) ≡ done v rest → v ≤ n
-record_flat n xs v rest e =
-    omega (arith, paper_flat (suc n) (2 ∷ xs) (suc v) rest (record_inside deep suc (suc n) n (2 ∷ xs) xs Record refl refl fields_deep deep_fields refl (done v rest) e))
+  pub record_room : (n : ℕ) (xs : List ℕ) {v : X} {rest : List ℕ} → length xs + 1 < 2 ^ 64 → record_read of n xs ≡ done v rest → has_room v
+  record_room n xs {v} {rest} l e =
+      paper_room (suc n) (2 ∷ xs) v rest (omega arith) (opens_record of {n = suc n} {xs = 2 ∷ xs} {s = Record} (refl, refl) refl ∙ e)

@@ -5,13 +5,14 @@ use Rattle.std.proofs.lemmas.Bool.{lt-leb, le-ltb, and_left, and_right, cond-fal
 use Rattle.std.proofs.lemmas.Result.{err_from_is_err_and}
 use Rattle.papers.specs.declared.reading.Fault.{Fault}
 use Rattle.papers.specs.declared.reading.Part.{Part}
-use Rattle.papers.specs.declared.reading.Start.{Start}
-use Rattle.papers.specs.declared.reading.Start.TheVariants.{Number, List as ListStart, Record}
+use Rattle.papers.specs.declared.shape.Shape.{Shape}
+use Rattle.papers.specs.declared.shape.Shape.TheVariants.{Number, List as ListShape, Record}
+use Rattle.papers.specs.declared.reading.Why.{Why}
 use Rattle.papers.specs.declared.reading.Why.TheVariants.{NoPaper, Deeper}
-use Rattle.papers.specs.Telling.{start_number, Told}
+use Rattle.papers.specs.Telling.{shape_number, Told}
 use Rattle.papers.specs.Row.{limit}
 use Rattle.papers.specs.Reading.{Outcome, done, fault, into, number_from, read_list, read_record, read_paper}
-use Rattle.papers.specs.Paper.{Paper, num, items, fields, Papers, Fields}
+use Rattle.papers.specs.Paper.{Paper, num, items, fields}
 use Rattle.papers.proofs.Outcomes.{into_done, number_reads, number_read}
 use Rattle.papers.proofs.Causal.{paper_causal}
 
@@ -36,12 +37,12 @@ number_right low v [] h z k l = absurd (omega arith)
 number_right low v (x ∷ xs) h z k l =
     subst (λ y. number_from low (y ∷ xs) ≡ done v (rest_of (y ∷ xs))) z (number_reads low v xs k l ∙ ap (done v) (sym (take_rest (v ∷ xs) 1)))
 
-pub name_below : (low : ℕ) (xs : List ℕ) (v : ℕ) (rest : List ℕ) → number_from low xs ≡ done v rest → v < limit
-name_below low xs v rest e = (number_read low xs v rest e).2
+pub name_below : (low : ℕ) (xs : List ℕ) {v : ℕ} {rest : List ℕ} → number_from low xs ≡ done v rest → v < limit
+name_below low xs {v} {rest} e = (number_read low xs v rest e).2
 
 -- the rest of a reading is shorter than the row, or no longer
-pub number_shortens : (low : ℕ) (xs : List ℕ) (v : ℕ) (rest : List ℕ) → number_from low xs ≡ done v rest → suc (length rest) ≡ length xs
-number_shortens low xs v rest e = sym (ap length (number_read low xs v rest e).0)
+pub number_shortens : (low : ℕ) (xs : List ℕ) {v : ℕ} {rest : List ℕ} → number_from low xs ≡ done v rest → suc (length rest) ≡ length xs
+number_shortens low xs {v} {rest} e = sym (ap length (number_read low xs v rest e).0)
 
 pub paper_shortens : {X : Type 0} (val : Paper → X) (n : ℕ) (xs : List ℕ) (v : X) (rest : List ℕ) → into val (read_paper n xs) ≡ done v rest → length rest ≤ length xs
 paper_shortens val n xs v rest e =
@@ -74,47 +75,46 @@ paper_too_deep zero (suc (suc zero) ∷ xs) z h k = refl
 paper_too_deep zero (suc (suc (suc s)) ∷ xs) z h k = absurd (omega arith)
 paper_too_deep (suc n) xs z h k = absurd (omega arith)
 
--- a start that is known is at most 2
-pub known_start : (n : ℕ) (start : Start) → start_number start ≡ n → n ≤ 2
-known_start n Number e = omega arith
-known_start n ListStart e = omega arith
-known_start n Record e = omega arith
+-- a shape has a number that is at most 2
+pub known_shape : (n : ℕ) (shape : Shape) → shape_number shape ≡ n → n ≤ 2
+known_shape n Number e = omega arith
+known_shape n ListShape e = omega arith
+known_shape n Record e = omega arith
 
 -- a row that begins with a number
 pub begins_with : (x : ℕ) (xs : List ℕ) → 0 < length xs → x ≡ get_or xs 0 0 → xs ≡ x ∷ rest_of xs
 begins_with x [] h e = absurd (omega arith)
 begins_with x (y ∷ ys) h e = ap (λ z. z ∷ ys) (sym e) ∙ ap (λ zs. x ∷ zs) (sym (take_rest (y ∷ ys) 1))
 
--- a paper from what is in it: o is how the inside is read, val what is made of the paper, part what is made of the inside, and up the
--- one from the other
-inside : {A X Y : Type 0} (val : Paper → X) (con : A → Paper) (part : A → Y) (up : Y → X) → ((a : A) → val (con a) ≡ up (part a)) →
-    (o : Outcome A) (p : Outcome Y) → into part o ≡ p → into val (into con o) ≡ into up p
-inside val con part up h (done a rest) p e = ap (λ x. done x rest) (h a) ∙ ap (into up) e
-inside val con part up h (fault w left) p e = ap (into up) e
+-- a paper that begins with a shape is what is made of what follows
+opens : {A X : Type 0} (of : Paper → X) (make : A → Paper) (o : Outcome A) → into of (into make o) ≡ into (λ a. of (make a)) o
+opens of make (done a rest) = refl
+opens of make (fault w left) = refl
 
--- a row that begins with a start, read as it begins
-starts : (n m : ℕ) (xs rest : List ℕ) (s t : Start) → n ≡ suc m → xs ≡ start_number s ∷ rest → s ≡ t →
-    read_paper n xs ≡ read_paper (suc m) (start_number t ∷ rest)
-starts n m xs rest s t l z is = ap (λ k. read_paper k xs) l ∙ ap (read_paper (suc m)) (z ∙ ap (λ u. start_number u ∷ rest) is)
+begins : {n m : ℕ} {xs rest : List ℕ} {s : Shape} → (n ≡ suc m) × (xs ≡ shape_number s ∷ rest) → (t : Shape) → s ≡ t →
+    read_paper n xs ≡ read_paper (suc m) (shape_number t ∷ rest)
+begins {n} {m} {xs} {rest} o t is = ap (λ k. read_paper k xs) o.0 ∙ ap (read_paper (suc m)) (o.1 ∙ ap (λ u. shape_number u ∷ rest) is)
 
-module _ {X Y : Type 0} (val : Paper → X) (up : Y → X) (n m : ℕ) (xs rest : List ℕ) (s : Start) (l : n ≡ suc m) (z : xs ≡ start_number s ∷ rest) where
-  pub number_inside : (part : ℕ → Y) → ((v : ℕ) → val (num v) ≡ up (part v)) → s ≡ Number → (p : Outcome Y) →
-      into part (number_from 0 rest) ≡ p → into val (read_paper n xs) ≡ into up p
+module _ {X : Type 0} (of : Paper → X) {n m : ℕ} {xs rest : List ℕ} {s : Shape} (o : (n ≡ suc m) × (xs ≡ shape_number s ∷ rest)) where
+  pub opens_number : s ≡ Number → into of (read_paper n xs) ≡ into (λ v. of (num v)) (number_from 0 rest)
   unfolding read_paper
-  number_inside part h is p e = ap (into val) (starts n m xs rest s Number l z is) ∙ inside val num part up h (number_from 0 rest) p e
+  opens_number is = ap (into of) (begins o Number is) ∙ opens of num (number_from 0 rest)
 
-  pub list_inside : (part : Papers → Y) → ((ds : Papers) → val (items ds) ≡ up (part ds)) → s ≡ ListStart → (p : Outcome Y) →
-      into part (read_list (read_paper m) rest) ≡ p → into val (read_paper n xs) ≡ into up p
+  pub opens_list : s ≡ ListShape → into of (read_paper n xs) ≡ into (λ ds. of (items ds)) (read_list (read_paper m) rest)
   unfolding read_paper
-  list_inside part h is p e = ap (into val) (starts n m xs rest s ListStart l z is) ∙ inside val items part up h (read_list (read_paper m) rest) p e
+  opens_list is = ap (into of) (begins o ListShape is) ∙ opens of items (read_list (read_paper m) rest)
 
-  pub record_inside : (part : Fields → Y) → ((fs : Fields) → val (fields fs) ≡ up (part fs)) → s ≡ Record → (p : Outcome Y) →
-      into part (read_record (read_paper m) rest) ≡ p → into val (read_paper n xs) ≡ into up p
+  pub opens_record : s ≡ Record → into of (read_paper n xs) ≡ into (λ fs. of (fields fs)) (read_record (read_paper m) rest)
   unfolding read_paper
-  record_inside part h is p e = ap (into val) (starts n m xs rest s Record l z is) ∙ inside val fields part up h (read_record (read_paper m) rest) p e
+  opens_record is = ap (into of) (begins o Record is) ∙ opens of fields (read_record (read_paper m) rest)
 
--- a fault of a part is handed on as it is
-pub hands_on : {X : Type 0} (o : Outcome X) (r : Result (Part X) Fault) (f : Fault) → IsErrAnd r (λ y. y ≡ f) → Told o (Err f) → Told o r
-hands_on o r f e h =
+-- a reading that fails at the front of what is left
+pub fails_at : {A : Type 0} {o : Outcome A} {w : Why} (left : List ℕ) (f : Fault) → f ≡ record { why = w; left = length left } → o ≡ fault w left → Told o (Err f)
+fails_at {o} {w} left f is e = subst (λ g. Told o (Err g)) (sym is) (left, e, refl)
+
+-- a fault of a part is one of the whole, and is handed on as it is
+pub hands_on : {A X : Type 0} {part : Outcome A} {whole : Outcome X} (r : Result (Part X) Fault) {f : Fault} → IsErrAnd r (λ y. y ≡ f) → Told part (Err f) →
+    ((w : Why) (left : List ℕ) → part ≡ fault w left → whole ≡ fault w left) → Told whole r
+hands_on {part} {whole} r {f} e h go =
     let p = err_from_is_err_and r e in
-    subst (Told o) (sym (p.1 ∙ ap Err p.2)) h
+    subst (Told whole) (sym (p.1 ∙ ap Err p.2)) (h.0, go f.why h.0 h.1, h.2)

@@ -3,8 +3,8 @@ use Rattle.std.specs.Prelude.{◌≡◌, ℕ, suc, ◌+◌, ◌-◌, ◌<◌, �
 use Rattle.papers.specs.declared.reading.Fault.{Fault}
 use Rattle.papers.specs.declared.reading.Opening.{Opening}
 use Rattle.papers.specs.declared.reading.Part.{Part}
-use Rattle.papers.specs.declared.reading.Start.{Start}
-use Rattle.papers.specs.declared.reading.Start.TheVariants.{Number, List as ListStart, Record}
+use Rattle.papers.specs.declared.shape.Shape.{Shape}
+use Rattle.papers.specs.declared.shape.Shape.TheVariants.{Number, List as ListShape, Record}
 use Rattle.papers.specs.declared.reading.Why.{Why}
 use Rattle.papers.specs.declared.reading.Why.TheVariants.{NoPaper, Deeper}
 use Rattle.papers.specs.declared.refusal.Refusal.{Refusal}
@@ -13,20 +13,20 @@ use Rattle.papers.specs.Row.{row_of, fits}
 use Rattle.papers.specs.Reading.{Outcome, done, fault, read_paper, read_row, deepest}
 use Rattle.papers.specs.Refusals.{number_of, place_of}
 
--- the number that a paper begins with
-abbrev pub start_number : Start → ℕ
-start_number Number = 0
-start_number ListStart = 1
-start_number Record = 2
+-- the number that a paper of this shape begins with
+abbrev pub shape_number : Shape → ℕ
+shape_number Number = 0
+shape_number ListShape = 1
+shape_number Record = 2
 
 -- an answer that says what a reading came to: what was read and the rest, or why not and how much was left there
 abbrev pub Told : {X : Type 0} → Outcome X → Result (Part X) Fault → Type 0
 Told o (Ok part) = o ≡ done part.value part.rest.now
 Told o (Err f) = (left : List ℕ) × (o ≡ fault f.why left) × (f.left ≡ length left)
 
--- how a paper at most n deep begins, or that its reading fails at the start
+-- the shape with which a paper at most n deep begins, or that its reading fails at the start
 abbrev pub Opened : ℕ → List ℕ → Result Opening Fault → Type 0
-Opened n xs (Ok o) = (n ≡ suc o.below) × (xs ≡ start_number o.start ∷ o.rest.now)
+Opened n xs (Ok o) = (n ≡ suc o.below) × (xs ≡ shape_number o.shape ∷ o.rest.now)
 Opened n xs (Err f) = (left : List ℕ) × (read_paper n xs ≡ fault f.why left) × (f.left ≡ length left)
 
 -- a well made paper that fits, at most n deep, stands at the front of a row, and the rest behind it

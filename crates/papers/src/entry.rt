@@ -1,10 +1,11 @@
 // The entries: a paper at the front of a row, and a row that is one paper.
 ghost use Rattle.papers.specs.Reading.{into, read_row};
-ghost use Rattle.papers.specs.Paper.{deep};
 ghost use Rattle.std.specs.Prelude.{◌≡◌, ◌-◌};
 ghost use Rattle.papers.specs.Refusals.{number_of, place_of};
 ghost use Rattle.papers.specs.Telling.{Told, FrontTold, RowTold, number_for};
 
+use crate::depth::Depth;
+use crate::fold::Fold;
 use crate::reading::{Fault, Part, Why, read_paper};
 use crate::refusal::Refusal;
 
@@ -29,19 +30,16 @@ impl Fault {
 pub fn read_front(row: &[u64], levels: u64) -> Result<Part<'_, u64>, Fault>
     ensures { FrontTold levels row.now result }
 {
-    read_paper(row, levels)
+    read_paper(&Depth, row, levels)
 }
 
-// A paper with nothing behind it.
-fn read_whole(row: &[u64]) -> Result<Part<'_, u64>, Fault>
-    ensures { Told (into deep (read_row row.now)) result }
+// What is made of the paper that a whole row is, with nothing behind it.
+pub fn read_whole<'a, F: Fold>(fold: &F, row: &'a [u64]) -> Result<Part<'a, F::Value>, Fault>
+    ensures { Told (into (F.of fold.now) (read_row row.now)) result }
 {
-    let paper = read_paper(row, DEEPEST)?;
+    let paper = read_paper(fold, row, DEEPEST)?;
     let [] = paper.rest else {
-        return Err(Fault {
-            why: Why::NoPaper,
-            left: paper.rest.len(),
-        });
+        return Err(Fault::at(paper.rest, Why::NoPaper));
     };
     Ok(paper)
 }
@@ -50,7 +48,8 @@ fn read_whole(row: &[u64]) -> Result<Part<'_, u64>, Fault>
 pub fn read(row: &[u64]) -> Result<u64, Refusal>
     ensures { RowTold row.now result }
 {
-    match read_whole(row) {
+    // A `match`: with `map` and `map_err` each case has to be shown again, and it is no plainer.
+    match read_whole(&Depth, row) {
         Ok(paper) => Ok(paper.value),
         Err(fault) => Err(fault.refusal(row.len())),
     }

@@ -4,16 +4,24 @@
 // `1 count papers..` or `2 count (name paper)..`, every number, name and count below 2^32.
 #![tactic(auto)]
 
+mod depth;
 mod entry;
+mod fold;
 mod laws;
 mod reading;
 mod refusal;
+mod shape;
 
 // A paper at the front of a row, and a row that is one paper.
-pub use entry::{DEEPEST, read, read_front};
-pub use reading::{Fault, Part, Why};
-// The steps of a reading, for a crate that makes something else of a paper than its depth.
-pub use reading::{Opening, Start, number_from, open_paper};
+pub use entry::{DEEPEST, read, read_front, read_whole};
+pub use reading::{Fault, Part, Why, read_paper};
+// The steps of a reading.
+pub use reading::{Opening, number_from, open_paper};
+// What is made of a paper.
+pub use depth::Depth;
+pub use fold::Fold;
+// The shapes of papers.
+pub use shape::{NoShape, Shape};
 // What is turned away, for all the crates above.
 pub use refusal::Refusal;
 // The laws of rows.

@@ -2,9 +2,10 @@
 ghost use Rattle.std.specs.Prelude.{◌≡◌};
 ghost use Rattle.papers.specs.Refusals.{number_of, place_of};
 
+use std::error::Error;
 use std::fmt;
 
-#[derive(Clone, Copy)]
+#[derive(Clone, Copy, Debug, PartialEq, Eq)]
 pub enum Refusal {
     // 1: the first form is none. The first kind at fault, or 4 for the count of kinds or a row cut short.
     FirstForm(u64),
@@ -23,6 +24,7 @@ pub enum Refusal {
 }
 
 impl Refusal {
+    // The number in the fixed list: by hand, since no derive numbers cases that hold their place.
     pub fn number(&self) -> u64
         ensures { result ≡ number_of self.now }
     {
@@ -37,6 +39,7 @@ impl Refusal {
         }
     }
 
+    // The place, which each case holds: by hand, since a derive hands out no field that all cases have.
     pub fn place(&self) -> u64
         ensures { result ≡ place_of self.now }
     {
@@ -60,3 +63,5 @@ impl fmt::Display for Refusal {
         write!(f, "refused {number} at {place}")
     }
 }
+
+impl Error for Refusal {}

@@ -1,27 +1,20 @@
--- One number at a time from the front of the bytes, and one word more of a command. Assumes nothing.
-use Rattle.std.proofs.Common.{◌≡◌, ℕ, zero, suc, ◌+◌, ◌-◌, ◌*◌, ◌/◌, ◌<◌, ◌≤◌, List, [], ◌∷◌, ◌++◌, length, get_or, take, drop, set, String, sym, refl, ap, ◌∙◌, subst, append_assoc, append-nil, arith}
+-- Numbers from the front of some bytes, and to the front of a row. Assumes nothing.
+use Rattle.std.proofs.Common.{◌≡◌, ℕ, zero, suc, ◌+◌, ◌-◌, ◌*◌, ◌/◌, ◌<◌, ◌≤◌, List, [], ◌∷◌, ◌++◌, length, get_or, take, drop, set, sym, refl, ap, ◌∙◌, append_assoc, map, arith}
 use Rattle.std.proofs.lemmas.List.{take_rest, take_more, drop_more, set_at, length-take-le}
-use Rattle.std.specs.List.{AllByRecursion}
-use Rattle.std.specs.declared.alloc.Global.{Global}
-use Rattle.std.proofs.slice.Lists.{all_by_recursion_push}
+use Rattle.std.specs.Simd.{first_chunks}
 use Rattle.programs.specs.Bytes.{four, numbers_in}
-use Rattle.programs.specs.Words.{NoOption}
 
-pub first_number : (xs : List ℕ) → 4 ≤ length xs → numbers_in xs ≡ four (get_or xs 0 0) (get_or xs 1 0) (get_or xs 2 0) (get_or xs 3 0) ∷ numbers_in (take (length xs - 4) (drop 4 xs))
+-- the number that four bytes are
+abbrev pub value : List ℕ → ℕ
+value bytes = four (get_or bytes 0 0) (get_or bytes 1 0) (get_or bytes 2 0) (get_or bytes 3 0)
+
+pub first_number : (xs : List ℕ) → 4 ≤ length xs → numbers_in xs ≡ value xs ∷ numbers_in (take (length xs - 4) (drop 4 xs))
 unfolding numbers_in
 first_number [] h = absurd (omega arith)
 first_number (a ∷ []) h = absurd (omega arith)
 first_number (a ∷ b ∷ []) h = absurd (omega arith)
 first_number (a ∷ b ∷ c ∷ []) h = absurd (omega arith)
 first_number (a ∷ b ∷ c ∷ d ∷ xs) h = ap (λ l. four a b c d ∷ numbers_in l) (sym (take_rest (a ∷ b ∷ c ∷ d ∷ xs) 4))
-
-no_number : (xs : List ℕ) → length xs < 4 → numbers_in xs ≡ []
-unfolding numbers_in
-no_number [] h = refl
-no_number (a ∷ []) h = refl
-no_number (a ∷ b ∷ []) h = refl
-no_number (a ∷ b ∷ c ∷ []) h = refl
-no_number (a ∷ b ∷ c ∷ d ∷ xs) h = absurd (omega arith)
 
 -- four bytes make a number
 pub numbers_length : (xs : List ℕ) → length (numbers_in xs) ≡ length xs / 4
@@ -32,18 +25,16 @@ numbers_length (a ∷ b ∷ []) = omega arith
 numbers_length (a ∷ b ∷ c ∷ []) = omega arith
 numbers_length (a ∷ b ∷ c ∷ d ∷ xs) = omega (arith, numbers_length xs)
 
--- the numbers so far, one more, and those of the rest
-pub one_more : (all later whole xs : List ℕ) (n : ℕ) → all ++ numbers_in xs ≡ whole → 4 ≤ length xs → n ≡ four (get_or xs 0 0) (get_or xs 1 0) (get_or xs 2 0) (get_or xs 3 0) → later ≡ all ++ n ∷ [] → later ++ numbers_in (take (length xs - 4) (drop 4 xs)) ≡ whole
-one_more all later whole xs n h l e p =
-    let rest = numbers_in (take (length xs - 4) (drop 4 xs)) in
-    ap (λ v. v ++ rest) p ∙ append_assoc all (n ∷ []) rest ∙ ap (λ i. all ++ i ∷ rest) e ∙ ap (λ v. all ++ v) (sym (first_number xs l)) ∙ h
-
-pub no_more : (all whole xs : List ℕ) → all ++ numbers_in xs ≡ whole → length xs < 4 → all ≡ whole
-no_more all whole xs h l = sym (append-nil all) ∙ ap (λ v. all ++ v) (sym (no_number xs l)) ∙ h
-
--- one word more that is no option
-pub word_more : (all later : List (String Global)) (word : String Global) → later ≡ all ++ word ∷ [] → AllByRecursion NoOption all → NoOption word → AllByRecursion NoOption later
-word_more all later word p h q = subst (AllByRecursion NoOption) (sym p) (all_by_recursion_push NoOption all word h q)
+-- the numbers are those of the bytes four by four
+pub chunks_numbers : (xs : List ℕ) → map value (first_chunks 4 (length xs / 4) xs) ≡ numbers_in xs
+unfolding numbers_in
+chunks_numbers [] = refl
+chunks_numbers (a ∷ []) = refl
+chunks_numbers (a ∷ b ∷ []) = refl
+chunks_numbers (a ∷ b ∷ c ∷ []) = refl
+chunks_numbers (a ∷ b ∷ c ∷ d ∷ xs) =
+    let e : length (a ∷ b ∷ c ∷ d ∷ xs) / 4 ≡ suc (length xs / 4) = omega arith in
+    rw e (ap (λ l. four a b c d ∷ l) (chunks_numbers xs))
 
 -- the number at an index is that of the four bytes there
 pub number_at : (xs : List ℕ) (i : ℕ) → 4 * i + 3 < length xs → get_or (numbers_in xs) i 0 ≡ four (get_or xs (4 * i) 0) (get_or xs (4 * i + 1) 0) (get_or xs (4 * i + 2) 0) (get_or xs (4 * i + 3) 0)

@@ -9,13 +9,11 @@ pub fn numbers(heap: Global, bytes: &[u8]) -> Result<Vec<u64>, AllocError>
     ensures is { IfOk result (λ v. v.items ≡ numbers_in bytes.now) }
     ensures len { IfOk result (λ v. vec_len v ≡ length bytes.now / 4) }
 {
-    let mut all = Vec::new(heap);
-    let mut rest = bytes;
-    while let [a, b, c, d, more @ ..] = rest {
-        all.push(number(*a, *b, *c, *d))?;
-        rest = more;
-    }
-    Ok(all)
+    let (fours, _) = bytes.as_chunks::<4>();
+    fours
+        .iter()
+        .map(|&[a, b, c, d]| number(a, b, c, d))
+        .collect(heap)
 }
 
 // Writes the numbers of these bytes to the front of a row, as many as it has room for, and says how many; the rest of the row
@@ -24,14 +22,11 @@ pub fn numbers_into(bytes: &[u8], row: &mut [u64]) -> usize
     ensures count { result ≡ min (length bytes.now / 4) (length row.old) }
     ensures row { row.new ≡ take result (numbers_in bytes.now) ++ drop result row.old }
 {
-    let count = row.len().min(bytes.len() / 4);
-    for i in 0..count {
-        row[i] = number(
-            bytes[4 * i],
-            bytes[4 * i + 1],
-            bytes[4 * i + 2],
-            bytes[4 * i + 3],
-        );
+    let (fours, _) = bytes.as_chunks::<4>();
+    let count = row.len().min(fours.len());
+    // The row by index: in a `zip` over its `iter_mut` an invariant has no name for it (tried).
+    for (i, &[a, b, c, d]) in fours[..count].iter().enumerate() {
+        row[i] = number(a, b, c, d);
     }
     count
 }
@@ -40,5 +35,5 @@ pub fn numbers_into(bytes: &[u8], row: &mut [u64]) -> usize
 fn number(a: u8, b: u8, c: u8, d: u8) -> u64
     ensures { result ≡ four a b c d }
 {
-    u64::from(a) + 256 * u64::from(b) + 65536 * u64::from(c) + 16777216 * u64::from(d)
+    u64::from(u32::from_le_bytes([a, b, c, d]))
 }

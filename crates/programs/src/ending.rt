@@ -1,18 +1,23 @@
 // How a program ends.
-ghost use Rattle.std.specs.Prelude.{◌≡◌, false, is_ok, MatchResult};
+ghost use Rattle.std.specs.Prelude.{◌≡◌, MatchResult};
+ghost use Rattle.std.specs.Process.{exit_status};
 
-use anyhow::anyhow;
+use std::fmt::Display;
+use std::process::ExitCode;
 
-// Status 0 where all went well and the answer asks for no other; an error is told on standard error.
-pub fn finish(rt: &HostRuntime, program: &str, res: anyhow::Result<bool>) -> anyhow::Result<()>
-    ensures { MatchResult res (λ well. is_ok result ≡ well) (λ _. is_ok result ≡ false) }
+// The status that a run ended with; an error is told on standard error, and makes it 1.
+pub fn finish<E: Display + Drop>(
+    rt: &HostRuntime,
+    program: &str,
+    res: Result<ExitCode, E>,
+) -> ExitCode
+    ensures { MatchResult res (λ status. result ≡ status) (λ _. exit_status result ≡ 1) }
 {
     match res {
-        Ok(true) => Ok(()),
-        Ok(false) => Err(anyhow!("")),
+        Ok(status) => status,
         Err(error) => {
             let _ = eprintln!(rt; "{program}: {error}");
-            Err(error)
+            ExitCode::FAILURE
         }
     }
 }

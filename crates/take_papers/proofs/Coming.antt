@@ -1,5 +1,5 @@
 -- One paper from the front of the bytes that are held. Assumes nothing.
-use Rattle.std.proofs.Common.{◌≡◌, ℕ, ◌+◌, ◌-◌, ◌*◌, ◌/◌, ◌<◌, ◌≤◌, min, List, [], ◌∷◌, ◌++◌, length, get_or, take, drop, Some, None, Ok, Option, sym, refl, ap, ◌∙◌, subst, append_assoc, arith}
+use Rattle.std.proofs.Common.{◌≡◌, ℕ, ◌+◌, ◌-◌, ◌*◌, ◌/◌, ◌<◌, ◌≤◌, min, List, ◌∷◌, ◌++◌, length, get_or, take, drop, Some, Ok, Option, sym, ap, ◌∙◌, subst, append_assoc, arith}
 use Rattle.std.proofs.lemmas.List.Edits.{length-between}
 use Rattle.std.proofs.lemmas.List.{take_rest, take_all, take_at, drop_at, take-append-drop, length-append, length-take-le, get_or-take, get_or_append_left}
 use Rattle.std.proofs.lemmas.Slice.{between_is}
@@ -9,18 +9,7 @@ use Rattle.programs.proofs.Steps.{first_number, numbers_length}
 use Rattle.take_papers.specs.Coming.{first, Counted, Came}
 use Rattle.take_papers.specs.Held.{GoesOn}
 
-pub none_left : (xs : List ℕ) → length xs ≡ 0 → xs ≡ []
-none_left [] e = refl
-none_left (x ∷ xs) e = absurd (omega arith)
-
--- nothing came before nothing
-pub none_before : (before after : List ℕ) → GoesOn before after → after ≡ [] → before ≡ []
-none_before before after (came, e) z = none_left before (omega (arith, ap length e, ap length z, length-append before came))
-
 -- what is told of a paper's length, at the bytes that are held
-pub counted_none : (bytes held : List ℕ) (count : Option ℕ) → bytes ≡ held → count ≡ None → Counted bytes (Ok count) → held ≡ []
-counted_none bytes held count e p h = subst (λ b. Counted b (Ok None)) e (subst (λ v. Counted bytes (Ok v)) p h)
-
 pub counted_some : (bytes held : List ℕ) (count : Option ℕ) (n : ℕ) → bytes ≡ held → count ≡ Some n → Counted bytes (Ok count) → (4 ≤ length held) × (first held ≡ n) × (n ≤ 1000)
 counted_some bytes held count n e p h = subst (λ b. Counted b (Ok (Some n))) e (subst (λ v. Counted bytes (Ok v)) p h)
 
@@ -32,6 +21,7 @@ first_stays : (xs ys : List ℕ) → GoesOn xs ys → 4 ≤ length xs → first 
 first_stays xs ys (came, e) h =
     first_same ys xs (λ i l. ap (λ v. get_or v i 0) e ∙ get_or_append_left xs came 0 i (omega arith))
 
+-- a paper that is cut short, of whose length so many numbers are told
 pub cut_short : (begun held : List ℕ) (n : ℕ) → GoesOn begun held → 4 ≤ length begun → first begun ≡ n → length held < 4 + 4 * n → (4 ≤ length held) × (length held < 4 + 4 * first held)
 cut_short begun held n (came, e) four-there first-is short =
     let same : first held ≡ n = first_stays begun held (came, e) four-there ∙ first-is in

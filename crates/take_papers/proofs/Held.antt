@@ -1,34 +1,14 @@
 -- What a block holds after each step. Assumes nothing.
-use Rattle.std.proofs.Common.{◌≡◌, ℕ, ◌+◌, ◌-◌, ◌≤◌, List, [], ◌++◌, length, take, drop, sym, ap, ◌∙◌, append_assoc, append-nil, arith, rules}
+use Rattle.std.proofs.Common.{◌≡◌, ℕ, ◌+◌, ◌≤◌, List, [], ◌++◌, length, take, drop, sym, ap, ◌∙◌, arith, rules}
 use borrow.Rule.Slice.PartMut.{put_mid}
-use lib.Seq.{paste}
-use Rattle.std.proofs.lemmas.List.Edits.{take-paste}
-use Rattle.std.proofs.lemmas.List.{drop-drop, length-drop, same_lists, places}
+use Rattle.std.proofs.lemmas.List.{drop-drop, same_lists, places}
 use Rattle.std.proofs.lemmas.Slice.{between_is}
 use Rattle.std.specs.List.{between}
 use Rattle.take_papers.specs.Held.{GoesOn}
 
--- the same bytes go on with none
-pub stays : (before after : List ℕ) → after ≡ before → GoesOn before after
-stays before after e = ([], e ∙ sym (append-nil before))
-
--- what goes on, and on again
-pub goes_further : (a b c : List ℕ) → GoesOn a b → GoesOn b c → GoesOn a c
-goes_further a b c (p, e) (q, f) = (p ++ q, f ∙ ap (λ l. l ++ q) e ∙ append_assoc a p q)
-
-pub goes_on_from : (a b c : List ℕ) → b ≡ a → GoesOn b c → GoesOn a c
-goes_on_from a b c e h = goes_further a b c (stays a b e) h
-
 -- without the first bytes
 pub skipped : (bytes : List ℕ) (start end n : ℕ) → between (start + n) end bytes ≡ drop n (between start end bytes)
 skipped bytes start end n = between_is bytes (start + n) end ∙ sym (drop-drop n start (take end bytes)) ∙ ap (drop n) (sym (between_is bytes start end))
-
--- moved to the front
-pub fronted : (bytes moved : List ℕ) (start n : ℕ) → moved ≡ paste bytes 0 (drop start bytes) n → start + n ≤ length bytes → between 0 n moved ≡ take n (drop start bytes)
-fronted bytes moved start n e h =
-    let l : n ≤ length (drop start bytes) = omega (arith, length-drop start bytes) in
-    let z : n - 0 ≡ 0 + n = omega arith in
-    ap (λ m. take m moved) z ∙ ap (take (0 + n)) e ∙ take-paste bytes 0 (drop start bytes) n (omega arith) l
 
 -- with what was read behind
 pub read_on : (bytes came : List ℕ) (start end room n : ℕ) → start ≤ end → end ≤ length bytes → n ≤ length came → between start (end + n) (put_mid end room bytes came) ≡ between start end bytes ++ take n came

@@ -1,17 +1,95 @@
 // Bytes that are read ahead, a large block at a time.
-ghost use Rattle.std.specs.Prelude.{◌≤◌};
+ghost use Rattle.std.specs.Prelude.{◌≡◌, ℕ, ◌+◌, ◌-◌, ◌≤◌, List, [], length, take, drop, IfOk};
+ghost use Rattle.take_papers.specs.Held.{GoesOn};
 
-mod filling;
+use std::io;
+use std::io::Read;
+use std::marker::Model;
 
 // How many bytes there is room for.
 const ROOM: usize = 65536;
 
-// The bytes from `start` to `end` are read and not used yet.
+// The bytes from `start` to `end` are read and not used yet: it holds these. It is no `BufReader`, which reads no more while it
+// holds a byte, and so cannot lend a paper whole that lies across its end; and no `Vec` that lets go of its front, which was
+// tried in the reader of bench/ and took over four times as long.
 #[derive(Drop)]
 pub(crate) struct Block {
     bytes: [u8; ROOM],
     start: usize,
     end: usize,
-    ghost ordered: { start ≤ end },
-    ghost within: { end ≤ 65536 },
+}
+
+impl Model for Block {
+    ghost Value = { List ℕ };
+
+    ghost view = { λ block. take (block.end - block.start) (drop block.start block.bytes) };
+
+    ghost invariant = { λ block. (block.start ≤ block.end) × (block.end ≤ 65536) };
+}
+
+impl Block {
+    // A block that holds nothing.
+    pub(crate) fn new() -> Block
+        ensures { result ≡ [] }
+    {
+        Block {
+            bytes: [0; ROOM],
+            start: 0,
+            end: 0,
+        }
+    }
+
+    // What it holds.
+    pub(crate) fn held(&self) -> &[u8]
+        ensures { result.now ≡ self.now }
+    {
+        let (start, end) = (self.start, self.end);
+        &self.bytes[start..end]
+    }
+
+    // Lets go of the first bytes that it holds.
+    pub(crate) fn skip(&mut self, count: usize)
+        requires { count ≤ length self.old }
+        ensures { self.new ≡ drop count self.old }
+    {
+        self.start += count;
+    }
+
+    // Reads on until it holds so many bytes or the input ends.
+    pub(crate) fn fill<R: Read>(&mut self, input: &mut R, least: usize) -> io::Result<()>
+        requires { least ≤ 65536 }
+        ensures { GoesOn self.old self.new }
+    {
+        if least <= self.held().len() {
+            return Ok(());
+        }
+        self.move_to_front();
+        while self.held().len() < least {
+            if self.read_more(input)? == 0 {
+                break;
+            }
+        }
+        Ok(())
+    }
+
+    // Makes all the room there is behind what it holds.
+    fn move_to_front(&mut self)
+        ensures { self.new ≡ self.old }
+    {
+        let (start, end) = (self.start, self.end);
+        self.bytes.copy_within(start..end, 0);
+        self.start = 0;
+        self.end = end - start;
+    }
+
+    // Reads once, as much as there is room for behind what it holds, and says how many bytes came.
+    fn read_more<R: Read>(&mut self, input: &mut R) -> io::Result<usize>
+        ensures more { GoesOn self.old self.new }
+        ensures count { IfOk result (λ n. length self.new ≡ length self.old + n) }
+    {
+        let end = self.end;
+        let count = input.read(&mut self.bytes[end..])?;
+        self.end = end + count;
+        Ok(count)
+    }
 }

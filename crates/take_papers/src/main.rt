@@ -1,7 +1,8 @@
 // Takes or refuses papers, one after the other, from standard input.
 #![tactic(auto)]
 
-ghost use Rattle.std.specs.Prelude.{◌≡◌, true, IfOk};
+ghost use Rattle.std.specs.Prelude.{◌≡◌, ◌≤◌, true, length, IfOk};
+ghost use Rattle.programs.specs.declared.program.Answer.TheVariants.{Good};
 ghost use Rattle.taking.specs.Answers.{Exactly, RowTaken};
 ghost use Rattle.taking.specs.Sorted.{sorted_of};
 
@@ -9,11 +10,10 @@ mod block;
 mod broken;
 mod stream;
 
-use anyhow::anyhow;
-use forms::{FormView, Room, one_form};
-use programs::{finish, kind_of, parse, row_of};
-use std::alloc::Global;
-use std::env;
+use broken::Failure;
+use forms::{Room, one_form};
+use programs::{Answer, Program, kind_of, row_of};
+use std::io;
 use std::io::{BufWriter, Stdin, Stdout, Write};
 use std::process::ExitCode;
 use stream::{MOST, Papers};
@@ -44,86 +44,77 @@ Options:
   --help        print this text
 ";
 
-// Writes the answer to one paper, and says whether the form took it.
+const PROGRAM: Program = Program {
+    name: "take_papers",
+    help: HELP,
+    takes: "it takes a form and up to one kind",
+    least: 1,
+    most: 2,
+};
+
+// Writes the answer to one paper, which is good if the form took it.
 fn answer(
     form: &SortedForm<'_>,
     kind: usize,
     row: &[u64],
     out: &mut BufWriter<Stdout>,
-) -> anyhow::Result<bool>
-    ensures { IfOk result (λ taken. Exactly (taken ≡ true) (RowTaken (sorted_of form.now) row.now kind true)) }
+) -> io::Result<Answer>
+    ensures { IfOk result (λ given. Exactly (given ≡ Good) (RowTaken (sorted_of form.now) row.now kind true)) }
 {
-    match take_as(form, row, kind) {
-        Taking::Taken => {
-            out.write_all(b"taken\n")?;
-            Ok(true)
-        }
-        Taking::NotTaken => {
-            out.write_all(b"not taken\n")?;
-            Ok(false)
-        }
-        Taking::Refused(refusal) => {
-            writeln!(out, "{refusal}")?;
-            Ok(false)
-        }
-    }
+    let taking = take_as(form, row, kind);
+    writeln!(out, "{taking}")?;
+    Ok(match taking {
+        Taking::Taken => Answer::Good,
+        Taking::NotTaken | Taking::Refused(_) => Answer::Bad,
+    })
 }
 
-// Answers every paper of the stream, and says whether the form took them all.
+// Answers every paper of the stream; the answer to all is good if the form took each.
 fn answer_all(
-    heap: Global,
     form: &SortedForm<'_>,
     kind: usize,
     papers: &mut Papers<Stdin>,
     out: &mut BufWriter<Stdout>,
-) -> anyhow::Result<bool> {
+) -> Result<Answer, Failure> {
     let mut row = [0; MOST];
-    let mut all_taken = true;
+    let mut all = Answer::Good;
+    // Counted, since a stream may go on for ever, and each loop must end.
     for number in 1..u64::MAX {
         match papers.next_into(&mut row) {
-            Ok(Some(count)) => all_taken &= answer(form, kind, &row[0..count], out)?,
+            Ok(Some(count)) => {
+                if answer(form, kind, &row[..count], out)? == Answer::Bad {
+                    all = Answer::Bad;
+                }
+            }
             Ok(None) => break,
-            Err(broken) => return Err(anyhow!(format!(in heap; "paper {number}: {broken}")?)),
+            Err(broken) => return Err(Failure::Paper { number, broken }),
         }
     }
-    Ok(all_taken)
+    Ok(all)
 }
 
-// Whether the exit status is to be 0.
-fn run(rt: &HostRuntime) -> anyhow::Result<bool> {
-    let heap = rt.alloc();
-    let command = parse(heap, env::args(rt)?)?;
-    if command.help {
-        rt.print(HELP)?;
-        return Ok(true);
-    }
-    let words = command.words.as_slice();
-    if words.len() < 1 || words.len() > 2 {
-        return Err(anyhow!("it takes a form and up to one kind: see --help"));
-    }
-    let k = kind_of(heap, words.get(1), 0)?;
+// Takes the papers by the form in the file that is named.
+fn take(rt: &HostRuntime, words: &[String]) -> Result<Answer, Failure>
+    requires { 1 ≤ length words.now }
+{
+    let k = kind_of(words.get(1), 0)?;
     let form = row_of(rt, words[0].as_str())?;
-    let kind = match one_form(&form, Room::Plain, k) {
-        Ok(kind) => kind,
+    let asked = match one_form(&form, Room::Plain, k) {
+        Ok(asked) => asked,
         Err(refusal) => {
             println!(rt; "{refusal}")?;
-            return Ok(!command.exit_code);
+            return Ok(Answer::Bad);
         }
     };
-    let form = SortedForm::new(FormView::new(&form, Room::Plain));
+    let form = SortedForm::new(asked.form);
     let mut papers = Papers::new(rt.stdin());
-    let mut out = BufWriter::new(heap, rt.stdout())?;
-    let answered = answer_all(heap, &form, kind, &mut papers, &mut out);
+    let mut out = BufWriter::new(rt.alloc(), rt.stdout())?;
+    let answered = answer_all(&form, asked.kind, &mut papers, &mut out);
     // What was answered is written even where the stream then failed.
     out.flush()?;
-    Ok(answered? || !command.exit_code)
+    answered
 }
 
-// `finish` has told the error.
 fn main(rt: HostRuntime) -> ExitCode {
-    let result = run(&rt);
-    match finish(&rt, "take_papers", result) {
-        Ok(()) => ExitCode::SUCCESS,
-        Err(_) => ExitCode::FAILURE,
-    }
+    PROGRAM.run(&rt, take)
 }

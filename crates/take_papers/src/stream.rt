@@ -1,7 +1,6 @@
 // A stream of papers: each is a count of numbers, four bytes, and so many numbers.
 ghost use Rattle.std.specs.Prelude.{◌≡◌, []};
 ghost use Rattle.take_papers.specs.Coming.{Counted, Comes};
-ghost use Rattle.take_papers.specs.Held.{held};
 
 use crate::block::Block;
 use crate::broken::Broken;
@@ -38,7 +37,7 @@ fn count_of(bytes: &[u8]) -> Result<Option<usize>, Broken>
 impl<R: Read> Papers<R> {
     // The papers of an input of which nothing is read yet.
     pub(crate) fn new(input: R) -> Papers<R>
-        ensures { held result.block ≡ [] }
+        ensures { result.block ≡ [] }
     {
         Papers {
             input,
@@ -48,14 +47,16 @@ impl<R: Read> Papers<R> {
 
     // Writes the next paper's numbers to the front of the row, and says how many; or none where the stream ends.
     pub(crate) fn next_into(&mut self, row: &mut [u64; MOST]) -> Result<Option<usize>, Broken>
-        ensures { Comes (held self.old.block) (held self.new.block) row.old row.new result }
+        ensures { Comes self.old.block self.new.block row.old row.new result }
     {
-        self.block.fill(&mut self.input, 4)?;
+        self.block.fill(&mut self.input, 4).map_err(Broken::Unread)?;
         let Some(count) = count_of(self.block.held())? else {
             return Ok(None);
         };
         let size = 4 + 4 * count;
-        self.block.fill(&mut self.input, size)?;
+        self.block
+            .fill(&mut self.input, size)
+            .map_err(Broken::Unread)?;
         let held = self.block.held();
         if held.len() < size {
             return Err(Broken::InPaper);

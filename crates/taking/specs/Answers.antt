@@ -1,5 +1,5 @@
 -- What is answered to the question whether a form takes a paper. Assumes nothing: these are definitions.
-use Rattle.std.specs.Prelude.{◌≡◌, ℕ, ◌-◌, Bool, true, false, ◌⊎◌, List, [], length, Ok, Err, Result, nat_lt}
+use Rattle.std.specs.Prelude.{◌≡◌, ℕ, ◌-◌, Bool, true, false, ◌⊎◌, List, [], length, Option, Some, None, Ok, Err, Result, codes, nat_lt}
 use Rattle.papers.specs.declared.refusal.Refusal.{Refusal}
 use Rattle.papers.specs.Paper.{Paper}
 use Rattle.papers.specs.Reading.{Outcome, done, fault, read_row, deepest}
@@ -19,6 +19,12 @@ abbrev pub told_taking : Taking → Result Bool (ℕ × ℕ)
 told_taking Taken = Ok true
 told_taking NotTaken = Ok false
 told_taking (Refused e) = Err (number_of e, place_of e)
+
+-- What is printed of it, but for a refusal, which prints itself.
+abbrev pub taking_text : Taking → Option (List ℕ)
+taking_text Taken = Some (codes "taken")
+taking_text NotTaken = Some (codes "not taken")
+taking_text (Refused e) = None
 
 -- The row is the encoding of a well made paper that fits and is at most 256 deep, and whether f takes it as k is b.
 abbrev pub RowTaken : Form → List ℕ → ℕ → Bool → Type 0

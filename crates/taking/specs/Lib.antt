@@ -1,7 +1,9 @@
 pub mod Takes
 pub mod Within
 pub mod Masks
+pub mod Listing
 pub mod Groups
 pub mod Advance
 pub mod Answers
 pub mod Sorted
+pub mod Left

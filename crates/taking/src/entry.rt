@@ -1,23 +1,33 @@
 // The entries: whether a form takes the paper that a whole row is.
-ghost use Rattle.papers.specs.Reading.{into, read_row};
-ghost use Rattle.papers.specs.Telling.{Told};
 ghost use Rattle.forms.specs.declared.room.Room.TheVariants.{Plain};
 ghost use Rattle.taking.specs.Sorted.{sorted_of};
-ghost use Rattle.taking.specs.Answers.{Answered, TakeTold};
-ghost use Rattle.taking.specs.Masks.{kinds_of};
+ghost use Rattle.taking.specs.Answers.{Answered, TakeTold, taking_text};
 
 use crate::mask::holds;
-use crate::reading::take_paper;
 use crate::sorted::SortedForm;
-use forms::{FormView, Room, one_form};
-use papers::{DEEPEST, Fault, Part, Refusal, Why};
+use forms::{Room, one_form};
+use papers::{Refusal, read_whole};
+use std::fmt;
 
-// Whether a form takes a paper.
-#[derive(Clone, Copy)]
+// Whether a form takes a paper: an enum and no `Result<bool, Refusal>`, since what an entry answers has a name for each case.
+#[derive(Clone, Copy, Debug, PartialEq, Eq)]
 pub enum Taking {
     Taken,
     NotTaken,
     Refused(Refusal),
+}
+
+// `taken`, `not taken`, or the refusal.
+impl fmt::Display for Taking {
+    ghost output = { taking_text };
+
+    fn fmt<W: fmt::Write>(&self, f: &mut fmt::Formatter<W>) -> fmt::Result {
+        match *self {
+            Taking::Taken => f.write_str("taken"),
+            Taking::NotTaken => f.write_str("not taken"),
+            Taking::Refused(refusal) => refusal.fmt(f),
+        }
+    }
 }
 
 // Whether the form in a lent row takes the paper in another as kind k.
@@ -32,7 +42,7 @@ pub fn take_in(form: &[u64], room: Room, row: &[u64], k: u64) -> Taking
     ensures { TakeTold room form.now row.now k result }
 {
     match one_form(form, room, k) {
-        Ok(kind) => take_as(&SortedForm::new(FormView::new(form, room)), row, kind),
+        Ok(asked) => take_as(&SortedForm::new(asked.form), row, asked.kind),
         Err(refusal) => Taking::Refused(refusal),
     }
 }
@@ -42,7 +52,7 @@ pub fn take_in(form: &[u64], room: Room, row: &[u64], k: u64) -> Taking
 pub fn take_as(form: &SortedForm<'_>, row: &[u64], kind: usize) -> Taking
     ensures { Answered (sorted_of form.now) row.now kind result }
 {
-    let kinds = match take_whole(form, row) {
+    let kinds = match read_whole(form, row) {
         Ok(paper) => paper.value,
         Err(fault) => return Taking::Refused(fault.refusal(row.len())),
     };
@@ -51,18 +61,4 @@ pub fn take_as(form: &SortedForm<'_>, row: &[u64], kind: usize) -> Taking
     } else {
         Taking::NotTaken
     }
-}
-
-// The kinds that take the paper that a whole row is.
-fn take_whole<'a>(form: &SortedForm<'_>, row: &'a [u64]) -> Result<Part<'a, u16>, Fault>
-    ensures { Told (into (kinds_of (sorted_of form.now)) (read_row row.now)) result }
-{
-    let paper = take_paper(form, row, DEEPEST)?;
-    let [] = paper.rest else {
-        return Err(Fault {
-            why: Why::NoPaper,
-            left: paper.rest.len(),
-        });
-    };
-    Ok(paper)
 }

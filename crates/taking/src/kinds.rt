@@ -4,7 +4,6 @@ ghost use Rattle.papers.specs.Paper.{num};
 ghost use Rattle.taking.specs.Sorted.{sorted_of};
 ghost use Rattle.taking.specs.Masks.{test, kinds_of, list_taken};
 
-use crate::seen::kinds_seen;
 use crate::shapes::{ListSeen, NumberSeen};
 use crate::sorted::SortedForm;
 use forms::FormView;
@@ -21,13 +20,13 @@ impl<'a> SortedForm<'a> {
     pub fn number_kinds(&self, number: u64) -> u16
         ensures { result ≡ kinds_of (sorted_of self.now) (num number) }
     {
-        kinds_seen(self.form, &self.numbers, &NumberSeen { number })
+        self.kinds_seen(&NumberSeen { number })
     }
 
     // The kinds that take a list of so many papers, where each of these kinds, and no other, takes them all.
     pub fn list_kinds(&self, count: u64, kinds: u16) -> u16
         ensures { result ≡ list_taken (sorted_of self.now) count (test kinds) }
     {
-        kinds_seen(self.form, &self.lists, &ListSeen { count, kinds })
+        self.kinds_seen(&ListSeen { count, kinds })
     }
 }

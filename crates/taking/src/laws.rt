@@ -7,6 +7,7 @@ pub fn within_order()
 {}
 
 // A way added to a kind loses no paper, at any kind.
+#[tactic(auto, using(crate::proofs::Changing::wider))]
 pub fn wider()
     ensures { Wider }
 {}
@@ -17,6 +18,7 @@ pub fn new_field()
 {}
 
 // Kinds may be numbered anew.
+#[tactic(auto, using(crate::proofs::Moving::moved_takes))]
 pub fn moved_takes()
     ensures { MovedTakes }
 {}

@@ -1,17 +1,10 @@
 // How far the record ways of a form have come with the fields read so far.
 use crate::group::WAYS;
 
-// How far one way has come.
+// How far each record way has come, in the order in which they are listed: the index of the place at which, or behind which, the next
+// field belongs; none, if the way does not take the fields so far. The ways themselves are the form's: each record that is read begins
+// with a new array, which would copy them.
 #[derive(Clone, Copy)]
-pub(crate) enum Progress {
-    // It takes the fields so far, and the next belongs at the place with this index or behind it.
-    At(u8),
-    // It does not take them.
-    Dead,
-}
-
-// How far each record way has come, in the order in which they are listed.
-#[derive(Clone, Copy)]
-pub(crate) struct Records {
-    pub(crate) ways: [Progress; WAYS],
+pub struct Records {
+    pub(crate) ways: [Option<u8>; WAYS],
 }

@@ -1,101 +1,56 @@
-// Reading a paper from the front of a part of a row, and which kinds of a form take it: three functions that call each other, each over
-// what is left of the row. Each number of the row is looked at once, and no paper is built.
-ghost use Rattle.papers.specs.Reading.{into, read_list, read_record, read_paper};
-ghost use Rattle.papers.specs.Telling.{Told};
-ghost use Rattle.taking.specs.Sorted.{sorted_of};
-ghost use Rattle.taking.specs.Masks.{kinds_of, list_kinds, record_kinds};
+// The kinds of a form that take a paper, made while the paper is read: each number of its row is looked at once, and no paper is built.
+ghost use Rattle.std.specs.Prelude.{⊤};
+ghost use Rattle.papers.specs.declared.shape.Shape.TheVariants.{Record};
+ghost use Rattle.taking.specs.Left.{list_last, record_last};
+ghost use Rattle.taking.specs.Masks.{kinds_of};
+ghost use Rattle.taking.specs.Sorted.{sorted_of, shaped_of};
 
 use crate::mask::first_kinds;
 use crate::progress::Records;
-use crate::seen::kinds_seen;
-use crate::shapes::{ListSeen, NumberSeen};
+use crate::shapes::FieldSeen;
 use crate::sorted::SortedForm;
-use papers::{Fault, Part, Start, number_from, open_paper};
+use papers::Fold;
 
-// A paper that is at most `levels` deep: the kinds that take it, and the rest.
-#[cycle(take_list_take_paper_take_record)]
-pub(crate) fn take_paper<'a>(
-    form: &SortedForm<'_>,
-    row: &'a [u64],
-    levels: u64,
-) -> Result<Part<'a, u16>, Fault>
-    ensures { Told (into (kinds_of (sorted_of form.now)) (read_paper levels row.now)) result }
-{
-    let opening = open_paper(row, levels)?;
-    match opening.start {
-        Start::Number => {
-            let number = number_from(opening.rest, 0)?;
-            Ok(Part {
-                value: kinds_seen(
-                    form.form,
-                    &form.numbers,
-                    &NumberSeen {
-                        number: number.value,
-                    },
-                ),
-                rest: number.rest,
-            })
-        }
-        // Each part is taken out and put back: handed on whole, with room for a fault beside it, it is slower by a quarter.
-        Start::List => {
-            let papers = take_list(form, opening.rest, opening.below)?;
-            Ok(papers)
-        }
-        Start::Record => {
-            let fields = take_record(form, opening.rest, opening.below)?;
-            Ok(fields)
-        }
-    }
-}
+impl Fold for SortedForm<'_> {
+    type Value = u16;
 
-// The papers of a list behind its start, how many and each: the kinds that take the list, and the rest.
-#[cycle(take_list_take_paper_take_record)]
-fn take_list<'a>(form: &SortedForm<'_>, row: &'a [u64], levels: u64) -> Result<Part<'a, u16>, Fault>
-    ensures { Told (into (list_kinds (sorted_of form.now)) (read_list (read_paper levels) row.now)) result }
-{
-    let count = number_from(row, 0)?;
-    let mut kinds = first_kinds(form.form.kinds());
-    let mut rest = count.rest;
-    for _ in 0..count.value {
-        let paper = take_paper(form, rest, levels)?;
-        kinds &= paper.value;
-        rest = paper.rest;
-    }
-    Ok(Part {
-        value: kinds_seen(
-            form.form,
-            &form.lists,
-            &ListSeen {
-                count: count.value,
-                kinds,
-            },
-        ),
-        rest,
-    })
-}
+    type Fields = Records;
 
-// The fields of a record behind its start, by rising name: the kinds that take the record, and the rest.
-#[cycle(take_list_take_paper_take_record)]
-fn take_record<'a>(
-    form: &SortedForm<'_>,
-    row: &'a [u64],
-    levels: u64,
-) -> Result<Part<'a, u16>, Fault>
-    ensures { Told (into (record_kinds (sorted_of form.now)) (read_record (read_paper levels) row.now)) result }
-{
-    let count = number_from(row, 0)?;
-    let mut records = Records::new();
-    let mut rest = count.rest;
-    let mut low = 0;
-    for _ in 0..count.value {
-        let name = number_from(rest, low)?;
-        let inner = take_paper(form, name.rest, levels)?;
-        records.advance(form.form, &form.records, name.value, inner.value);
-        rest = inner.rest;
-        low = name.value + 1;
+    ghost of = { λ s. kinds_of (sorted_of s) };
+
+    ghost list_of = { λ s. list_last (sorted_of s) };
+
+    ghost record_of = { λ s so_far. record_last (sorted_of s) (shaped_of Record s) so_far.ways };
+
+    ghost has_room = { λ _ _. ⊤ };
+
+    ghost room = { λ _ _ _. tt };
+
+    fn number(&self, number: u64) -> u16 {
+        self.number_kinds(number)
     }
-    Ok(Part {
-        value: kinds_seen(form.form, &form.records, &records),
-        rest,
-    })
+
+    fn no_papers(&self) -> u16 {
+        first_kinds(self.form.kinds())
+    }
+
+    fn with_paper(&self, papers: u16, paper: u16) -> u16 {
+        papers & paper
+    }
+
+    fn list(&self, count: u64, papers: u16) -> u16 {
+        self.list_kinds(count, papers)
+    }
+
+    fn no_fields(&self) -> Records {
+        Records::new()
+    }
+
+    fn with_field(&self, so_far: &mut Records, name: u64, inner: u16) {
+        so_far.advance(self, FieldSeen { name, kinds: inner });
+    }
+
+    fn record(&self, so_far: &Records) -> u16 {
+        self.kinds_seen(so_far)
+    }
 }

@@ -1,37 +1,43 @@
 // What is kept of a paper while it is read, and the kinds of a form that take it.
-ghost use Rattle.std.specs.Prelude.{◌≡◌, ℕ, ◌<◌, Bool, length};
-ghost use Rattle.forms.specs.Form.{Form, ways_at};
-ghost use Rattle.forms.specs.View.{form_of};
-ghost use Rattle.taking.specs.Groups.{GroupThere, kinds_seen};
+ghost use Rattle.std.specs.Prelude.{◌≡◌, ℕ, ◌<◌, Bool};
+ghost use Rattle.papers.specs.declared.shape.Shape.{Shape};
+ghost use Rattle.forms.specs.Form.{Way};
+ghost use Rattle.taking.specs.Groups.{kinds_seen};
+ghost use Rattle.taking.specs.Sorted.{sorted_of, shaped_of};
+ghost use Rattle.forms.specs.View.{way_of};
 
-use crate::group::Group;
 use crate::mask::with;
-use forms::FormView;
+use crate::sorted::SortedForm;
+use forms::WayView;
+use papers::Shape;
 
 // As much of a paper as a way looks at.
 pub(crate) trait Seen {
-    // Whether way w of kind k of a form takes it, which is way i of those that are listed.
-    ghost sees: { Self → Form → ℕ → ℕ → ℕ → Bool };
+    // The shape of the ways that may take it.
+    ghost SHAPE: { Shape };
 
-    fn seen_by(&self, form: FormView<'_>, kind: usize, way: usize, index: usize) -> bool
-        requires kind_there { kind < length (form_of form) }
-        requires way_there { way < length (ways_at (form_of form) kind) }
-        requires index_there { index < 144 }
-        ensures { result ≡ sees self.now (form_of form.entry) kind way index };
+    const SHAPE: Shape;
+
+    // Whether a way takes it, which is way i of those that are listed.
+    ghost sees: { Self → Way → ℕ → Bool };
+
+    fn seen_by(&self, way: WayView<'_>, index: usize) -> bool
+        requires { index < 144 }
+        ensures { result ≡ sees self.now (way_of way.entry) index };
 }
 
-// The kinds of which a listed way takes it.
-pub(crate) fn kinds_seen<S: Seen>(form: FormView<'_>, group: &Group, seen: &S) -> u16
-    requires { GroupThere (form_of form) group.now }
-    ensures { result ≡ kinds_seen (S.Seen.sees seen.now (form_of form.entry)) group.now (length (form_of form.entry)) }
-{
-    let mut kinds = 0u16;
-    for index in 0..group.count {
-        let at = group.ways[index];
-        let kind = at.kind as usize;
-        if seen.seen_by(form, kind, at.way as usize, index) {
-            kinds = with(kinds, kind);
+impl<'a> SortedForm<'a> {
+    // The kinds of which a way takes what was seen.
+    pub(crate) fn kinds_seen<S: Seen>(&self, seen: &S) -> u16
+        ensures { result ≡ kinds_seen (S.sees seen.now) (sorted_of self.now) (shaped_of S.SHAPE self.now) }
+    {
+        let mut kinds = 0u16;
+        for (index, at) in self.ways(S::SHAPE).iter().enumerate() {
+            let kind = at.kind as usize;
+            if seen.seen_by(self.form.way(kind, at.way as usize), index) {
+                kinds = with(kinds, kind);
+            }
         }
+        kinds
     }
-    kinds
 }

@@ -1,6 +1,5 @@
 // What is kept of a number, of a list and of a record while it is read.
-ghost use Rattle.std.specs.Prelude.{◌<◌};
-ghost use Rattle.forms.specs.Form.{way_at};
+ghost use Rattle.papers.specs.declared.shape.Shape.TheVariants.{Number, List as ListShape, Record};
 ghost use Rattle.taking.specs.Masks.{test};
 ghost use Rattle.taking.specs.Advance.{progress_at, ends_well};
 ghost use Rattle.taking.specs.Takes.{number_takes, list_takes, record_takes};
@@ -9,7 +8,8 @@ use crate::fields::ends_well;
 use crate::mask::holds;
 use crate::progress::Records;
 use crate::seen::Seen;
-use forms::{FormView, Way};
+use forms::{Way, WayView};
+use papers::Shape;
 
 #[derive(Clone, Copy)]
 pub(crate) struct NumberSeen {
@@ -23,11 +23,22 @@ pub(crate) struct ListSeen {
     pub(crate) kinds: u16,
 }
 
-impl Seen for NumberSeen {
-    ghost sees = { λ s f k w i. number_takes s.number (way_at f k w) };
+// A field of this name, and the kinds that take its paper.
+#[derive(Clone, Copy)]
+pub(crate) struct FieldSeen {
+    pub(crate) name: u64,
+    pub(crate) kinds: u16,
+}
 
-    fn seen_by(&self, form: FormView<'_>, kind: usize, way: usize, index: usize) -> bool {
-        match form.way(kind, way) {
+impl Seen for NumberSeen {
+    ghost SHAPE = { Number };
+
+    const SHAPE: Shape = Shape::Number;
+
+    ghost sees = { λ s w i. number_takes s.number w };
+
+    fn seen_by(&self, way: WayView<'_>, index: usize) -> bool {
+        match way.read() {
             Way::Number { from, to } => from <= self.number && self.number <= to,
             Way::List { .. } | Way::Record { .. } => false,
         }
@@ -35,16 +46,16 @@ impl Seen for NumberSeen {
 }
 
 impl Seen for ListSeen {
-    ghost sees = { λ s f k w i. list_takes s.count (test s.kinds) (way_at f k w) };
+    ghost SHAPE = { ListShape };
 
-    fn seen_by(&self, form: FormView<'_>, kind: usize, way: usize, index: usize) -> bool {
-        match form.way(kind, way) {
-            Way::List {
-                kind: inner,
-                least,
-                most,
-            } => {
-                least as u64 <= self.count && self.count <= most as u64 && holds(self.kinds, inner)
+    const SHAPE: Shape = Shape::List;
+
+    ghost sees = { λ s w i. list_takes s.count (test s.kinds) w };
+
+    fn seen_by(&self, way: WayView<'_>, index: usize) -> bool {
+        match way.read() {
+            Way::List { kind, least, most } => {
+                least as u64 <= self.count && self.count <= most as u64 && holds(self.kinds, kind)
             }
             Way::Number { .. } | Way::Record { .. } => false,
         }
@@ -52,9 +63,13 @@ impl Seen for ListSeen {
 }
 
 impl Seen for Records {
-    ghost sees = { λ s f k w i. record_takes (ends_well (progress_at s.ways i)) (way_at f k w) };
+    ghost SHAPE = { Record };
 
-    fn seen_by(&self, form: FormView<'_>, kind: usize, way: usize, index: usize) -> bool {
-        ends_well(form, kind, way, self.ways[index])
+    const SHAPE: Shape = Shape::Record;
+
+    ghost sees = { λ s w i. record_takes (ends_well (progress_at s.ways i)) w };
+
+    fn seen_by(&self, way: WayView<'_>, index: usize) -> bool {
+        ends_well(way, self.ways[index])
     }
 }

@@ -1,21 +1,18 @@
-use Rattle.std.proofs.Common.{◌≡◌, arith}
+use Rattle.std.proofs.Common.{◌≡◌, ℕ, ◌<◌, ◌≤◌, true, false, Option, Some, None, MatchOption, arith, rules, tests}
+use Rattle.std.proofs.lemmas.Iterator.{first_from_Range}
 use Rattle.forms.specs.Fits.{kind_fits}
-use Rattle.forms.specs.Layout.{kinds_count}
-use Rattle.forms.proofs.Every.{every_none, every_more, first_failing_here, first_failing_none}
 use Rattle.forms.proofs.checking.first_misfit.Goals as goal
 
-pub loop-kind-init : goal.loop-kind-init
-loop-kind-init c = every_none _
-
-pub returns-then-not-kind_fits : goal.returns-then-not-kind_fits
-returns-then-not-kind_fits c =
-    let here = first_failing_here (kind_fits c.args.room c.args.row.now) (kinds_count c.args.row.now) c.loop-kind.kind c.loop-kind.invariant (cc) (omega arith) in
-    cc here
-
-pub loop-kind-preserved : goal.loop-kind-preserved
-loop-kind-preserved c = every_more _ _ c.loop-kind.invariant (cc)
+-- What is found from 0 on.
+from_zero : (n : ℕ) (r : Option ℕ) (Yes No : ℕ → Type 0) →
+    MatchOption r ((k : ℕ) → 0 ≤ k → k < n → No k) (λ i. (0 ≤ i) × (i < n) × Yes i × ((k : ℕ) → 0 ≤ k → k < i → No k)) →
+    MatchOption r ((k : ℕ) → k < n → No k) (λ i. (i < n) × Yes i × ((k : ℕ) → k < i → No k))
+from_zero n None Yes No h = λ k l. h k (omega arith) l
+from_zero n (Some i) Yes No h = (h.1, h.2, λ k l. h.3 k (omega arith) l)
 
 pub returns : goal.returns
 returns c =
-    let e : c.loop-kind.kind ≡ c.kinds_count-kinds.result = omega arith in
-    cc (first_failing_none (kind_fits c.args.room c.args.row.now) c.loop-kind.kind c.loop-kind.invariant)
+    let fits = kind_fits c.args.laid.now.room c.args.laid.now.row.now in
+    rw (← c.kinds.ensures)
+    (from_zero c.kinds.result c.find.result (λ k. fits k ≡ false) (λ k. fits k ≡ true)
+    (first_from_Range _ _ _ _ _ _ c.find.ensures.ran (λ x q k. search (rules, tests)) (λ x q k. search (rules, tests))))

@@ -8,7 +8,7 @@ use Rattle.forms.proofs.checking.way_fits.Goals as goal
 pub returns-then-within_limits : goal.returns-then-within_limits
 unfolding way_fits
 returns-then-within_limits c =
-    let p = places_of_shape (way_from c.args.row.now c.args.at) in
+    let p = places_of_shape (way_from c.args.way.now 0) in
     grind (arith, nat_tests)
 
 pub returns-else-within_limits : goal.returns-else-within_limits

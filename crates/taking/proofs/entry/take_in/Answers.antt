@@ -8,11 +8,10 @@ use Rattle.taking.proofs.entry.take_in.Goals as goal
 pub returns-in-Ok : goal.returns-in-Ok
 returns-in-Ok c =
     let h = c.in-Ok.ensures in
-    let v = c.new.ensures in
-    let says : Answered (form_of c.new-in-Ok.result.form) c.args.row.now c.in-Ok.kind c.take_as.result = search rules in
-    answered c.args.room c.args.form.now c.args.row.now c.args.k c.in-Ok.kind c.take_as.result
-    (kind_asked c.args.room c.args.form.now c.args.k c.in-Ok.kind h.is) h.fits
-    (subst (λ f. Answered f c.args.row.now c.in-Ok.kind c.take_as.result) (ap form_of c.new-in-Ok.ensures ∙ (λ i. form_in (v.room i) (v.row i).now)) says)
+    let says : Answered (form_of c.new.result.form) c.args.row.now c.in-Ok.asked.kind c.take_as.result = search rules in
+    answered c.args.room c.args.form.now c.args.row.now c.args.k c.in-Ok.asked.kind c.take_as.result
+    (kind_asked c.args.room c.args.form.now c.args.k c.in-Ok.asked.kind h.is) h.fits
+    (subst (λ f. Answered f c.args.row.now c.in-Ok.asked.kind c.take_as.result) (ap form_of c.new.ensures ∙ (λ i. form_in (h.room i) (h.row i).now)) says)
 
 pub returns-in-Err : goal.returns-in-Err
 returns-in-Err c =

@@ -1,29 +1,16 @@
-use Rattle.std.proofs.Common.{◌≡◌, length, sym, ap, ◌∙◌, subst, arith}
-use Rattle.forms.specs.Form.{shape, shape_places, way_at}
-use Rattle.forms.specs.Fits.{KeepsTo}
+use Rattle.std.proofs.Common.{length, sym, subst}
+use Rattle.forms.specs.Fits.{PlaceKeepsTo}
+use Rattle.forms.specs.Layout.{place_in}
 use Rattle.forms.specs.View.{form_of}
-use Rattle.forms.proofs.Parts.{places_of_shape}
-use Rattle.forms.proofs.Views.{view_kind, view_way}
+use Rattle.forms.proofs.Views.{view_way, view_place}
 use Rattle.forms.proofs.view.FormView.way.Goals as goal
 
-pub way_start-requires : goal.way_start-requires
-way_start-requires c =
-    let v = c.args.self.now in
-    let k = view_kind v c.args.kind c.requires.kind_there in
-    let w = view_way v c.args.kind c.args.way c.requires.kind_there c.requires.way_there in
-    omega arith
+pub returns-clause-limits : goal.returns-clause-limits
+returns-clause-limits c = (view_way c.args.self.now c.args.kind c.args.way c.requires.kind_there c.requires.way_there).keeps
 
-pub way_at-requires : goal.way_at-requires
-way_at-requires c = omega (arith, view_kind c.args.self.now c.args.kind c.requires.kind_there)
-
-pub returns : goal.returns
-returns c =
+pub returns-clause-places : goal.returns-clause-places
+unfolding place_in
+returns-clause-places c = λ i j.
     let v = c.args.self.now in
-    let f = form_of v in
-    let w = view_way v c.args.kind c.args.way c.requires.kind_there c.requires.way_there in
-    let is : c.way_at.result ≡ shape (way_at f c.args.kind c.args.way) = cc (c.way_at.ensures, c.way_start.ensures.is, w.is) in
-    record {
-      is = is;
-      places = ap shape_places is ∙ places_of_shape (way_at f c.args.kind c.args.way);
-      limits = subst (KeepsTo (length f)) (sym is) w.keeps;
-    }
+    let p = view_place v c.args.kind c.args.way i c.requires.kind_there c.requires.way_there j in
+    subst (PlaceKeepsTo (length (form_of v))) (sym p.is) (p.fits.name, p.fits.kind)

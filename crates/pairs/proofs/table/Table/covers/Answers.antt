@@ -4,4 +4,4 @@ use Rattle.pairs.proofs.Families.{family_covers}
 use Rattle.pairs.proofs.table.Table.covers.Goals as goal
 
 pub returns : goal.returns
-returns c = family_covers (found_at c.args.self.now.found c.args.kind).sets c.args.set _ c.requires.set_there refl
+returns c = family_covers (found_at c.args.self.now.found c.args.pair.kind).sets c.args.pair.set _ c.args.pair.set_there refl

@@ -1,9 +1,9 @@
-use Rattle.std.proofs.Common.{◌≡◌, ◌-◌}
-use Rattle.take_papers.specs.Held.{held, GoesOn}
+use Rattle.std.proofs.Common.{◌-◌, length}
+use Rattle.take_papers.specs.Held.{GoesOn}
 use Rattle.take_papers.proofs.block.Block.fill.Given as goal
 
 abbrev pub invariant-loop-self : goal.invariant-loop-self
-invariant-loop-self g l = (l.self.start ≡ 0) × GoesOn (held l.initial.self) (held l.self)
+invariant-loop-self g l = GoesOn l.fn.self l.self
 
 abbrev pub decreases-loop-self : goal.decreases-loop-self
-decreases-loop-self g l = l.least - l.self.end
+decreases-loop-self g l = l.least - length l.self

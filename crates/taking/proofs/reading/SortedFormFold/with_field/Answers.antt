@@ -1,0 +1,7 @@
+use Rattle.papers.specs.declared.shape.Shape.TheVariants.{Record}
+use Rattle.taking.specs.Sorted.{sorted_of, shaped_of}
+use Rattle.taking.proofs.Folding.{record_next}
+use Rattle.taking.proofs.reading.SortedFormFold.with_field.Goals as goal
+
+pub returns : goal.returns
+returns c = record_next (sorted_of c.args.self.now) (shaped_of Record c.args.self.now) c.args.inner c.args.name c.args.so_far.now.ways c.advance.new.self.ways c.advance.ensures
