@@ -35,7 +35,8 @@ impl Program {
     ghost use Rattle.programs.specs.Endings.{Ended};
     ghost use Rattle.programs.specs.declared.line.Command.{Command};
 
-    // Runs it: `answer` gets the words, which are as many as it takes.
+    // Runs it: `answer` gets the words, which are as many as it takes. That `answer` may be called so is all that is asked; a function
+    // that counts on so many words says no more.
     pub fn run<E, F>(&self, rt: &HostRuntime, answer: F) -> ExitCode
     where
         E: From<Error> + Display + Drop,
