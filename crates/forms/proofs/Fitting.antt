@@ -152,33 +152,6 @@ place_there room row k w i h l m j =
       fits = placed n row at i (place_fitting n row at i c.fits i-there);
     }
 
--- A row whose count of kinds does not fit is no form, and the place to tell is the number of kinds that it should have room for.
-pub uncounted : (room : Room) (row : List ℕ) (p : ℕ) → count_fits room row ≡ false → p ≡ room_kinds room →
-    (form_fits room row ≡ false) × (p ≡ fault room row) × FirstFault room row p
-unfolding form_fits fault
-uncounted room row p h e = (rw h, rw h e, inl (h, e))
-
--- A row of which kind k is the first at fault.
-pub misfit : (room : Room) (row : List ℕ) (k place : ℕ) → count_fits room row ≡ true → place ≡ k → k < kinds_count row →
-    kind_fits room row k ≡ false → ((i : ℕ) → i < k → kind_fits room row i ≡ true) →
-    (form_fits room row ≡ false) × (place ≡ fault room row) × FirstFault room row place
-unfolding form_fits fault
-misfit room row k place h e l off before =
-    let p = kind_fits room row in
-    let n = kinds_count row in
-    rw e (
-      rw h (every_off p n k l off),
-      rw h (sym (first_failing_here p n k (every_from p k before) off l)),
-      inr (h, l, off, before),
-    )
-
--- A row that counts its kinds rightly, each of which fits, is a form.
-pub all_fit : (room : Room) (row : List ℕ) → count_fits room row ≡ true →
-    ((k : ℕ) → k < kinds_count row → kind_fits room row k ≡ true) → form_fits room row ≡ true
-unfolding form_fits
-all_fit room row h each =
-    and_from (count_fits room row) (every (kind_fits room row) (kinds_count row)) h (every_from (kind_fits room row) (kinds_count row) each)
-
 -- A part that fails where another passes.
 and_false : (x y : Bool) → x ≡ true → (x && y) ≡ false → y ≡ false
 and_false x y e h =
@@ -199,3 +172,31 @@ fault_first room row h =
           subst (FirstFault room row) (sym (cond-false (count_fits room row) (first_failing p n) (room_kinds room) e))
           (inl (e, refl))
     ]
+
+-- What is told of a row that is no form, where the place is the one at fault.
+told : (room : Room) (row : List ℕ) (p : ℕ) → form_fits room row ≡ false → p ≡ fault room row →
+    (form_fits room row ≡ false) × (p ≡ fault room row) × FirstFault room row p
+told room row p h e = (h, e, subst (FirstFault room row) (sym e) (fault_first room row h))
+
+-- A row whose count of kinds does not fit is no form, and the place to tell is the number of kinds that it should have room for.
+pub uncounted : (room : Room) (row : List ℕ) (p : ℕ) → count_fits room row ≡ false → p ≡ room_kinds room →
+    (form_fits room row ≡ false) × (p ≡ fault room row) × FirstFault room row p
+unfolding form_fits fault
+uncounted room row p h e = told room row p (rw h) (rw h e)
+
+-- A row of which kind k is the first at fault.
+pub misfit : (room : Room) (row : List ℕ) (k place : ℕ) → count_fits room row ≡ true → place ≡ k → k < kinds_count row →
+    kind_fits room row k ≡ false → ((i : ℕ) → i < k → kind_fits room row i ≡ true) →
+    (form_fits room row ≡ false) × (place ≡ fault room row) × FirstFault room row place
+unfolding form_fits fault
+misfit room row k place h e l off before =
+    let p = kind_fits room row in
+    let n = kinds_count row in
+    told room row place (rw h (every_off p n k l off)) (rw (e, h) (sym (first_failing_here p n k (every_from p k before) off l)))
+
+-- A row that counts its kinds rightly, each of which fits, is a form.
+pub all_fit : (room : Room) (row : List ℕ) → count_fits room row ≡ true →
+    ((k : ℕ) → k < kinds_count row → kind_fits room row k ≡ true) → form_fits room row ≡ true
+unfolding form_fits
+all_fit room row h each =
+    and_from (count_fits room row) (every (kind_fits room row) (kinds_count row)) h (every_from (kind_fits room row) (kinds_count row) each)
