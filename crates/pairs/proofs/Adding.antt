@@ -170,6 +170,7 @@ module _ (R : Round) (T : Table) (a t : ℕ) (run : Running R T) (here : a < 4) 
         let parts = and_parts (eqb a R.one.kind) (not (test t R.other)) asked in
         let last : paper_of (added T a t n) (T.count + 1 - 1) ≡ node_paper (papers_of T) n = ap (paper_of (added T a t n)) (omega arith) ∙ paper_last in
         record {
+          room = length-set T.nodes T.count n ∙ run.rooms.0;
           some = omega arith;
           few = omega (arith, room_left);
           names = names_earlier;

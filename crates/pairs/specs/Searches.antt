@@ -36,6 +36,7 @@ pub record Running (R : Round) (T : Table) : Type 0 where
 
 -- The round has found the answer: the last node's paper, at most one deeper.
 pub record Stopped (R : Round) (T : Table) : Type 0 where
+  pub room : length T.nodes ≡ 64
   pub some : 1 ≤ T.count
   pub few : T.count ≤ 64
   pub names : NamesEarlier (take T.count T.nodes)
