@@ -13,8 +13,10 @@ unwrap-ways-requires c = ways_given c.args.self.now _ _ c.args.kind _ c.requires
 
 pub invariant_of-result : goal.invariant_of-result
 invariant_of-result c =
-    record { fit = (view_ways c.args.self.now _ _ c.args.kind _ _ c.requires c.laid.ensures.row c.laid.ensures.room c.ways.ensures c.unwrap-ways.ensures).fit }
+    let w = view_ways c.args.self.now _ _ c.args.kind _ _ c.requires c.laid.ensures.row c.laid.ensures.room c.ways.ensures c.unwrap-ways.ensures in
+    record { fit = cc w.fit }
 
 pub returns : goal.returns
 returns c =
-    record { is = (view_ways c.args.self.now _ _ c.args.kind _ _ c.requires c.laid.ensures.row c.laid.ensures.room c.ways.ensures c.unwrap-ways.ensures).are }
+    let w = view_ways c.args.self.now _ _ c.args.kind _ _ c.requires c.laid.ensures.row c.laid.ensures.room c.ways.ensures c.unwrap-ways.ensures in
+    record { is = cc w.are }

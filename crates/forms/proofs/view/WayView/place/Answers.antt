@@ -1,4 +1,4 @@
-use Rattle.std.proofs.Common.{◌≡◌, ◌∙◌, sym, subst, arith}
+use Rattle.std.proofs.Common.{◌≡◌, [], get_or, sym, subst, arith}
 use Rattle.forms.specs.Fits.{PlaceKeepsTo}
 use Rattle.forms.specs.Layout.{place_in}
 use Rattle.forms.proofs.Chunks.{place_cut}
@@ -17,5 +17,6 @@ returns c =
     let v = c.args.self.now in
     let i = c.args.index in
     let p = way_place v i c.requires in
-    let e : c.place_of.result ≡ place_in v.numbers.now 0 i = c.place_of.ensures ∙ place_cut v.numbers.now _ i (c.places.ensures.places i p.few) in
-    record { is = e ∙ sym p.is; limits = subst (PlaceKeepsTo 16) (sym e) (p.fits.name, p.fits.kind) }
+    let cut = place_cut v.numbers.now (get_or c.places.result.now i []) i (c.places.ensures.places i p.few) in
+    let e : c.place_of.result ≡ place_in v.numbers.now 0 i = cc (c.place_of.ensures, cut) in
+    record { is = cc (e, p.is); limits = subst (PlaceKeepsTo 16) (sym e) (p.fits.name, p.fits.kind) }
