@@ -101,6 +101,7 @@ impl<'a> WayView<'a> {
     }
 
     // A place of a way that is a record.
+    #[tactic(auto, using(crate::proofs::Views::way_few))]
     pub fn place(&self, index: usize) -> Place
         requires { index < length (places_of (way_of self.now)) }
         ensures is { result ≡ slice_index_or (places_of (way_of self.now)) index no_place }
