@@ -15,6 +15,6 @@ abbrev pub Ended : (help told : Bool) → (Answer → Type 0) → ExitCode → T
 Ended true told Answers status = exit_status status ≡ 0
 Ended false told Answers status = (answer : Answer) × Answers answer × (exit_status status ≡ status_after told answer)
 
--- why a run failed: help was asked for, and not printed; there are too few words or too many; or the program's answer failed so
+-- why a run failed: help was asked for; there are too few words or too many; or the program's answer failed so
 abbrev pub Failed : {W E : Type 0} → (least most : ℕ) → (help : Bool) → List W → (E → Type 0) → E → Type 0
 Failed least most help words Fails error = (help ≡ true) ⊎ ((length words < least) ⊎ ((most < length words) ⊎ Fails error))
