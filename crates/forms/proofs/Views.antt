@@ -31,6 +31,11 @@ pub view_place : (v : FormView) (k w i : ℕ) → k < length (form_of v) → w <
     i < length (places_of (way_at (form_of v) k w)) → PlaceThere v.room v.row.now k w i
 view_place v k w i l m j = place_there v.room v.row.now k w i v.fits l m j
 
+-- A row has room for each way of its form.
+pub view_room : (v : FormView) (k w : ℕ) → k < length (form_of v) → w < length (ways_at (form_of v) k) →
+    (k < room_kinds v.room) × (w < room_ways v.room) × (room_ways v.room ≤ 9)
+view_room v k w l m = ((view_kind v k l).room_for, (view_way v k w l m).room_for, omega (arith, room_small v.room))
+
 -- The numbers of a way of a form, cut out of its row.
 pub view_cut : (v : FormView) (row : Bor (List ℕ)) (room : Room) (k w : ℕ) → k < length (form_of v) → w < length (ways_at (form_of v) k) →
     row ≡ v.row → room ≡ v.room → {numbers : List ℕ} → numbers ≡ take 16 (drop (way_start room k w) row.now) →

@@ -57,6 +57,7 @@ impl<'a> FormView<'a> {
     }
 
     // One way of a kind.
+    #[tactic(auto, using(crate::proofs::Views::view_room))]
     pub fn way(&self, kind: usize, way: usize) -> WayView<'a>
         requires kind_there { kind < length (form_of self.now) }
         requires way_there { way < length (ways_at (form_of self.now) kind) }
@@ -65,7 +66,7 @@ impl<'a> FormView<'a> {
         ensures places { (i : ℕ) → i < length (places_of (way_at (form_of self.now) kind way)) → PlaceKeepsTo (length (form_of self.now)) (place_at (form_of self.now) kind way i) }
     {
         WayView {
-            numbers: &self.ways_of(kind).left[way],
+            numbers: &self.laid().room_for_ways(kind)[way],
         }
     }
 
