@@ -91,14 +91,13 @@ fn reads_a_form_at_every_bound(rt: HostRuntime) -> Result<(), Fail> {
     );
     let record = form.way(0, 2);
     assert_eq!(rt; record.read(), Way::Record { places: 4 });
-    assert_eq!(rt;
-        record.place(3),
-        Place {
-            name: TOP,
-            kind: 3,
-            must: true
-        }
-    );
+    let last = Place {
+        name: TOP,
+        kind: 3,
+        must: true,
+    };
+    assert_eq!(rt; record.place(3), last);
+    assert_eq!(rt; form.place(0, 2, 3), last);
     Ok(())
 }
 

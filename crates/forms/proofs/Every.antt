@@ -1,6 +1,6 @@
 -- Laws of `every` and of `first_failing`.
-use Rattle.std.proofs.Common.{◌≡◌, ℕ, zero, suc, ◌<◌, ◌≤◌, Bool, true, false, cond, ◌&&◌, ◌⊎◌, List, length, get_or, take, sym, refl, ap, ap₂, ◌∙◌, subst, inl, inr, add-one, zero-add, arith}
-use Rattle.std.proofs.lemmas.Bool.{and_parts, and_from, cases_order, cases_Bool, both_ways}
+use Rattle.std.proofs.Common.{◌≡◌, ℕ, zero, suc, ◌<◌, ◌≤◌, Bool, true, false, cond, ◌&&◌, eqb, ◌⊎◌, List, length, get_or, take, sym, refl, ap, ap₂, ◌∙◌, subst, inl, inr, add-one, zero-add, arith}
+use Rattle.std.proofs.lemmas.Bool.{and_parts, and_from, cases_order, cases_Bool, eq-eqb, ne_eqb, both_ways}
 use Rattle.std.proofs.lemmas.List.Folds.{list_all_more}
 use Rattle.std.proofs.lemmas.List.FromFn.{length-range_with_len, get_or-range_with_len}
 use Rattle.std.proofs.lemmas.List.{take_all}
@@ -41,6 +41,13 @@ pub first_failing_suc : (p : ℕ → Bool) (n : ℕ) →
 unfolding first_failing
 first_failing_suc p n = refl
 
+-- none fails
+pub first_failing_none : (p : ℕ → Bool) (n : ℕ) → every p n ≡ true → first_failing p n ≡ n
+unfolding first_failing
+first_failing_none p zero h = refl
+first_failing_none p (suc n) h =
+    let parts = and_parts (every p n) (p n) (sym (every_suc p n) ∙ h) in rw (parts.0, parts.1)
+
 -- the first that fails
 pub first_failing_here : (p : ℕ → Bool) (n k : ℕ) → every p k ≡ true → p k ≡ false → k < n → first_failing p n ≡ k
 first_failing_here p zero k h off l = absurd (omega arith)
@@ -67,6 +74,13 @@ first_failing_fails p (suc n) h = go (first_failing_fails p n) (cases_Bool (ever
     go r (inl e) (inl f) = absurd (both_ways (every p (suc n)) h (every_suc p n ∙ and_from (every p n) (p n) e f))
     go r (inl e) (inr f) = rw (first_failing_here p (suc n) n e f (omega arith)) (omega arith, f, e)
     go r (inr e) _ = let s = r e in rw (first_failing_suc p n, e) (omega arith, s.1, s.2)
+
+pub every_by_first : (p : ℕ → Bool) (n : ℕ) → every p n ≡ eqb (first_failing p n) n
+every_by_first p n = go (cases_Bool (every p n))
+  where
+    go : (every p n ≡ true) ⊎ (every p n ≡ false) → every p n ≡ eqb (first_failing p n) n
+    go (inl e) = e ∙ sym (eq-eqb (first_failing p n) n (first_failing_none p n e))
+    go (inr e) = e ∙ sym (ne_eqb (first_failing p n) n (λ q. let b = (first_failing_fails p n e).0 in omega arith))
 
 -- Two tests that agree below n.
 pub every_same : (p q : ℕ → Bool) (n : ℕ) → ((i : ℕ) → i < n → p i ≡ q i) → every p n ≡ every q n

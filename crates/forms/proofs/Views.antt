@@ -31,6 +31,11 @@ pub view_place : (v : FormView) (k w i : ℕ) → k < length (form_of v) → w <
     i < length (places_of (way_at (form_of v) k w)) → PlaceThere v.room v.row.now k w i
 view_place v k w i l m j = place_there v.room v.row.now k w i v.fits l m j
 
+-- A row has room for each way of its form.
+pub view_room : (v : FormView) (k w : ℕ) → k < length (form_of v) → w < length (ways_at (form_of v) k) →
+    (k < room_kinds v.room) × (w < room_ways v.room) × (room_ways v.room ≤ 9)
+view_room v k w l m = ((view_kind v k l).room_for, (view_way v k w l m).room_for, omega (arith, room_small v.room))
+
 -- The numbers of a way of a form, cut out of its row.
 pub view_cut : (v : FormView) (row : Bor (List ℕ)) (room : Room) (k w : ℕ) → k < length (form_of v) → w < length (ways_at (form_of v) k) →
     row ≡ v.row → room ≡ v.room → {numbers : List ℕ} → numbers ≡ take 16 (drop (way_start room k w) row.now) →
@@ -92,11 +97,14 @@ pub record PlaceOf (v : WayView) (i : ℕ) : Type 0 where
 pub way_keeps : (v : WayView) → KeepsTo 16 (shape (way_of v))
 way_keeps v = keeps_to 16 (shape (way_of v)) (way_parts 16 v.numbers.now 0 v.fits).0
 
+pub way_few : (v : WayView) → length (places_of (way_of v)) ≤ 4
+way_few v = places_few 16 (way_of v) (way_keeps v)
+
 pub way_place : (v : WayView) (i : ℕ) → i < length (places_of (way_of v)) → PlaceOf v i
 way_place v i h =
     let row = v.numbers.now in
     record {
-      few = omega (arith, places_few 16 (way_of v) (way_keeps v));
+      few = omega (arith, way_few v);
       is = place_of_way (get_or row 0 0) row 0 i no_place h;
       fits = placed 16 row 0 i (place_fitting 16 row 0 i v.fits h);
     }
@@ -115,6 +123,6 @@ pub places_cut : (v : WayView) (n : ℕ) (places : List (List ℕ)) → n ≡ le
     ((i : ℕ) → i < 4 → get_or places i [] ≡ take 3 (drop (4 + 3 * i) v.numbers.now)) →
     map place_by (take n places) ≡ places_of (way_of v)
 places_cut v n places e long cut =
-    let few : n ≤ 4 = omega (arith, places_few 16 (way_of v) (way_keeps v)) in
+    let few : n ≤ 4 = omega (arith, way_few v) in
     map_taken place_by places (places_of (way_of v)) n [] no_place (omega arith) (sym e) λ i m.
     place_cut v.numbers.now (get_or places i []) i (cut i (omega arith)) ∙ sym (way_place v i (omega arith)).is

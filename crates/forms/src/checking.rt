@@ -67,9 +67,10 @@ fn way_fits(way: &[u64; WAY], kinds: usize) -> bool
     ensures { result ≡ way_fits kinds way.now 0 }
 {
     let shown = layout::way_of(way);
+    // Numbers and lists have no places: to see that first is quicker.
     layout::shape_of(way).is_ok()
         && within_limits(shown, kinds)
-        && places_fit(way, shown.places(), kinds)
+        && (shown.places() == 0 || places_fit(way, shown.places(), kinds))
 }
 
 // Whether a way keeps to the limits, its places aside.

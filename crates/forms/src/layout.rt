@@ -57,15 +57,23 @@ impl<'a> Laid<'a> {
         self.row[0] as usize
     }
 
+    // The room for the ways of a kind: those that it has stand at the front.
+    pub(crate) fn room_for_ways(&self, kind: usize) -> &'a [[u64; WAY]]
+        requires { kind < room_kinds self.now.room }
+        ensures { (length result.now ≡ room_ways self.now.room) × ((w : ℕ) → w < room_ways self.now.room → slice_index_or result.now w [] ≡ take 16 (drop (way_start self.now.room kind w) self.now.row.now)) }
+    {
+        let block = block(self.room);
+        let start = 1 + kind * block;
+        self.row[start + 1..start + block].as_chunks::<WAY>().0
+    }
+
     // The ways of a kind, if there is room for as many as it says that it has.
     pub(crate) fn ways(&self, kind: usize) -> Option<&'a [[u64; WAY]]>
         requires { kind < room_kinds self.now.room }
         ensures { MatchOption result (room_ways self.now.room < ways_count self.now.room self.now.row.now kind) (λ ways. (length ways.now ≡ ways_count self.now.room self.now.row.now kind) × (length ways.now ≤ room_ways self.now.room) × ((w : ℕ) → w < length ways.now → slice_index_or ways.now w [] ≡ take 16 (drop (way_start self.now.room kind w) self.now.row.now))) }
     {
-        let block = block(self.room);
-        let start = 1 + kind * block;
-        let ways = self.row[start + 1..start + block].as_chunks::<WAY>().0;
-        ways.get(..self.row[start] as usize)
+        let count = self.row[1 + kind * block(self.room)];
+        self.room_for_ways(kind).get(..count as usize)
     }
 }
 

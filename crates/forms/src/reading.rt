@@ -1,12 +1,13 @@
 // Reading the parts of a form.
 //
-// `ways`, `ways_of`, `way` and `place` have a `requires`, that the part is there, as the index of a slice has: they are the inner
-// steps of loops over a form, where the bound of the loop shows it, and a test at each of them would only be repeated. What comes
-// from outside, a row or the number of a kind, is refused by `one_form` and `two_forms`, which have none and hand on the view.
+// `ways`, `ways_of`, `way`, `FormView::place` and `WayView::place` have a `requires`, that the part is there, as the index of a
+// slice has: they are the inner steps of loops over a form, where the bound of the loop shows it, and a test at each of them would
+// only be repeated. What comes from outside, a row or the number of a kind, is refused by `one_form` and `two_forms`, which have
+// none and hand on the view.
 //
-// That the kind is there stands in three of them: a caller that goes over all kinds has it from its loop, and one that asks for
+// That the kind is there stands in four of them: a caller that goes over all kinds has it from its loop, and one that asks for
 // one kind has it in `Asked`.
-ghost use Rattle.std.specs.Prelude.{◌≡◌, ℕ, ◌<◌, ◌≤◌, length, slice_index_or};
+ghost use Rattle.std.specs.Prelude.{◌≡◌, ℕ, ◌^◌, ◌<◌, ◌≤◌, length, slice_index_or};
 ghost use Rattle.forms.specs.Form.{shape, shape_places, ways_at, way_at, places_of, place_at, no_place};
 ghost use Rattle.forms.specs.Fits.{KeepsTo, PlaceKeepsTo};
 ghost use Rattle.forms.specs.Layout.{room_kinds, room_ways};
@@ -56,6 +57,7 @@ impl<'a> FormView<'a> {
     }
 
     // One way of a kind.
+    #[tactic(auto, using(crate::proofs::Views::view_room))]
     pub fn way(&self, kind: usize, way: usize) -> WayView<'a>
         requires kind_there { kind < length (form_of self.now) }
         requires way_there { way < length (ways_at (form_of self.now) kind) }
@@ -64,8 +66,19 @@ impl<'a> FormView<'a> {
         ensures places { (i : ℕ) → i < length (places_of (way_at (form_of self.now) kind way)) → PlaceKeepsTo (length (form_of self.now)) (place_at (form_of self.now) kind way i) }
     {
         WayView {
-            numbers: &self.ways_of(kind).left[way],
+            numbers: &self.laid().room_for_ways(kind)[way],
         }
+    }
+
+    // A place of a way that is a record.
+    pub fn place(&self, kind: usize, way: usize, index: usize) -> Place
+        requires kind_there { kind < length (form_of self.now) }
+        requires way_there { way < length (ways_at (form_of self.now) kind) }
+        requires place_there { index < length (places_of (way_at (form_of self.now) kind way)) }
+        ensures is { result ≡ place_at (form_of self.now) kind way index }
+        ensures limits { (result.name < 2 ^ 32) × (result.kind < length (form_of self.now)) }
+    {
+        self.way(kind, way).place(index)
     }
 }
 
@@ -89,6 +102,7 @@ impl<'a> WayView<'a> {
     }
 
     // A place of a way that is a record.
+    #[tactic(auto, using(crate::proofs::Views::way_few))]
     pub fn place(&self, index: usize) -> Place
         requires { index < length (places_of (way_of self.now)) }
         ensures is { result ≡ slice_index_or (places_of (way_of self.now)) index no_place }

@@ -1,6 +1,6 @@
 -- A node put into the table, for a pair under which nothing was found.
-use Rattle.std.proofs.Common.{◌≡◌, ℕ, suc, ◌+◌, ◌-◌, ◌<◌, ◌≤◌, Bool, true, false, not, ◌&&◌, eqb, ◌⊎◌, List, [], ◌∷◌, ◌++◌, length, get_or, set, sym, refl, ap, ◌∙◌, subst, inl, inr, arith}
-use Rattle.std.proofs.lemmas.List.{length-set, length_push, get_or_append_left, get_or_push, get_or-set_same, get_or-set_other}
+use Rattle.std.proofs.Common.{◌≡◌, ℕ, suc, ◌+◌, ◌-◌, ◌<◌, ◌≤◌, Bool, true, false, not, ◌&&◌, eqb, ◌⊎◌, List, [], ◌∷◌, ◌++◌, length, get_or, take, set, sym, refl, ap, ◌∙◌, subst, inl, inr, arith}
+use Rattle.std.proofs.lemmas.List.{length-set, length_push, length-take-le, take_more_set, get_or_append_left, get_or_push, get_or-set_same, get_or-set_other}
 use Rattle.std.proofs.lemmas.Bool.{cases_eq, cases_Bool, cases_order, eqb-true, eq-eqb, and_parts, and_cases, or_left, or_right, or_cases, not-true, not-false, both_ways}
 use Rattle.taking.specs.Masks.{test}
 use Rattle.taking.proofs.Folding.{test_kinds}
@@ -11,7 +11,7 @@ use Rattle.pairs.specs.declared.table.Table.{Table}
 use Rattle.pairs.specs.Nodes.{node_paper, NamesBelow, NamesEarlier}
 use Rattle.pairs.specs.Rounds.{HasPaper}
 use Rattle.pairs.specs.Searches.{one_of, two_of, Running, Stopped, Tried}
-use Rattle.pairs.specs.Tables.{found_at, with_set, Marked, MarkedAt, count, node_of, papers_of, paper_of, HasUnder, pairs_found, minimal_at, mark_at}
+use Rattle.pairs.specs.Tables.{found_at, with_set, Marked, MarkedAt, node_of, papers_of, paper_of, HasUnder, pairs_found, minimal_at, mark_at}
 use Rattle.pairs.proofs.Families.{inside_itself}
 use Rattle.pairs.proofs.Pairing.{pairs_le, pairs_more, found_here, found_other, sets_here}
 use Rattle.pairs.proofs.Telling.{told_before, told_last}
@@ -33,8 +33,9 @@ names_push ns n h b i l =
 abbrev pub added : Table → ℕ → ℕ → Node → Table
 added T a t n =
     record {
-      nodes = record { items = T.nodes.items ++ n ∷ [] };
-      found = set T.found a (with_set (found_at T.found a) t (count T));
+      count = T.count + 1;
+      nodes = set T.nodes T.count n;
+      found = set T.found a (with_set (found_at T.found a) t T.count);
     }
 
 module _ (R : Round) (T : Table) (a t : ℕ) (run : Running R T) (here : a < 4) (small : t < 16) (new : HasUnder T a t → ⊥) where
@@ -46,26 +47,26 @@ module _ (R : Round) (T : Table) (a t : ℕ) (run : Running R T) (here : a < 4) 
       go (inr e) = e
 
   inside : a < length T.found
-  inside = omega (arith, run.rooms.0)
+  inside = omega (arith, run.rooms.1)
 
-  one_more : (i : ℕ) → pairs_found (set T.found a (with_set (found_at T.found a) t i)) 4 ≡ suc (count T)
+  one_more : (i : ℕ) → pairs_found (set T.found a (with_set (found_at T.found a) t i)) 4 ≡ suc T.count
   one_more i = pairs_more T.found a t i inside 4 here small unmarked ∙ ap suc (sym run.many)
 
   -- There is room: each pair has one node, and there are 64 pairs.
-  pub room_left : count T < 64
+  pub room_left : T.count < 64
   room_left = omega (arith, one_more 0, pairs_le (set T.found a (with_set (found_at T.found a) t 0)) 4)
 
   -- What is marked afterwards: the pair, and what was marked before.
   pub marked_new : (n : Node) → Marked (added T a t n) a t
-  marked_new n = sets_here T.found a t (count T) inside t ∙ or_right (test (found_at T.found a).sets t) (eqb t t) (eq-eqb t t refl)
+  marked_new n = sets_here T.found a t T.count inside t ∙ or_right (test (found_at T.found a).sets t) (eqb t t) (eq-eqb t t refl)
 
   marked_kept : (n : Node) (b s : ℕ) → Marked T b s → Marked (added T a t n) b s
   marked_kept n b s h =
       elim (cases_eq b a) [
         | inl e ↦
             subst (λ x. Marked (added T a t n) x s) (sym e)
-            (sets_here T.found a t (count T) inside s ∙ or_left (test (found_at T.found a).sets s) (eqb t s) (subst (λ x. Marked T x s) e h))
-        | inr ne ↦ ap (λ f. test f.sets s) (found_other T.found a t (count T) inside b ne) ∙ h
+            (sets_here T.found a t T.count inside s ∙ or_left (test (found_at T.found a).sets s) (eqb t s) (subst (λ x. Marked T x s) e h))
+        | inr ne ↦ ap (λ f. test f.sets s) (found_other T.found a t T.count inside b ne) ∙ h
       ]
 
   marked_which : (n : Node) (b s : ℕ) → Marked (added T a t n) b s → Marked T b s ⊎ ((b ≡ a) × (s ≡ t))
@@ -73,57 +74,59 @@ module _ (R : Round) (T : Table) (a t : ℕ) (run : Running R T) (here : a < 4) 
     where
       go : (b ≡ a) ⊎ (b ≡ a → ⊥) → Marked T b s ⊎ ((b ≡ a) × (s ≡ t))
       go (inl e) =
-          elim (or_cases (test (found_at T.found a).sets s) (eqb t s) (sym (sets_here T.found a t (count T) inside s) ∙ subst (λ x. Marked (added T a t n) x s) e h)) [
+          elim (or_cases (test (found_at T.found a).sets s) (eqb t s) (sym (sets_here T.found a t T.count inside s) ∙ subst (λ x. Marked (added T a t n) x s) e h)) [
             | inl old ↦ inl (subst (λ x. Marked T x s) (sym e) old)
             | inr q ↦ inr (e, sym (eqb-true t s q))
           ]
-      go (inr ne) = inl (ap (λ f. test f.sets s) (sym (found_other T.found a t (count T) inside b ne)) ∙ h)
-
-  -- It has one node more.
-  count_new : (n : Node) → count (added T a t n) ≡ count T + 1
-  count_new n = omega (arith, length_push T.nodes.items n)
+      go (inr ne) = inl (ap (λ f. test f.sets s) (sym (found_other T.found a t T.count inside b ne)) ∙ h)
 
   -- The nodes of pairs.
-  node_new : (n : Node) → node_of (added T a t n) a t ≡ count T
+  node_new : (n : Node) → node_of (added T a t n) a t ≡ T.count
   node_new n =
-      ap (λ f. get_or f.nodes t 0) (found_here T.found a t (count T) inside)
-      ∙ get_or-set_same (found_at T.found a).nodes t (count T) 0 (omega (arith, run.rooms.1 a here))
+      ap (λ f. get_or f.nodes t 0) (found_here T.found a t T.count inside)
+      ∙ get_or-set_same (found_at T.found a).nodes t T.count 0 (omega (arith, run.rooms.2 a here))
 
   node_kept : (n : Node) (b s : ℕ) → Marked T b s → node_of (added T a t n) b s ≡ node_of T b s
   node_kept n b s h =
       elim (cases_eq b a) [
         | inl e ↦
             subst (λ x. node_of (added T a t n) x s ≡ node_of T x s) (sym e)
-            (ap (λ f. get_or f.nodes s 0) (found_here T.found a t (count T) inside)
-            ∙ get_or-set_other (found_at T.found a).nodes t s (count T) 0 (λ q. both_ways (test (found_at T.found a).sets t) unmarked (subst (λ x. Marked T a x) q (subst (λ x. Marked T x s) e h))))
-        | inr ne ↦ ap (λ f. get_or f.nodes s 0) (found_other T.found a t (count T) inside b ne)
+            (ap (λ f. get_or f.nodes s 0) (found_here T.found a t T.count inside)
+            ∙ get_or-set_other (found_at T.found a).nodes t s T.count 0 (λ q. both_ways (test (found_at T.found a).sets t) unmarked (subst (λ x. Marked T a x) q (subst (λ x. Marked T x s) e h))))
+        | inr ne ↦ ap (λ f. get_or f.nodes s 0) (found_other T.found a t T.count inside b ne)
       ]
 
-  module _ (n : Node) (names : NamesBelow (count T) n) (paper : HasPaper (one_of R) (two_of R) (suc R.depth) a t (node_paper (papers_of T) n)) where
+  module _ (n : Node) (names : NamesBelow T.count n) (paper : HasPaper (one_of R) (two_of R) (suc R.depth) a t (node_paper (papers_of T) n)) where
+    fits : T.count < length T.nodes
+    fits = omega (arith, run.rooms.0, room_left)
+
     -- The papers before it stay, and its own is the last.
-    paper_before : (i : ℕ) → i < count T → paper_of (added T a t n) i ≡ paper_of T i
-    paper_before i l = told_before T.nodes.items n i l
+    paper_before : (i : ℕ) → i < T.count → paper_of (added T a t n) i ≡ paper_of T i
+    paper_before i l = told_before T.nodes T.count n fits i l
 
-    paper_last : paper_of (added T a t n) (count T) ≡ node_paper (papers_of T) n
-    paper_last = told_last T.nodes.items n
+    paper_last : paper_of (added T a t n) T.count ≡ node_paper (papers_of T) n
+    paper_last = told_last T.nodes T.count n fits
 
-    names_earlier : NamesEarlier (T.nodes.items ++ n ∷ [])
-    names_earlier = names_push T.nodes.items n run.names names
+    names_earlier : NamesEarlier (take (T.count + 1) (set T.nodes T.count n))
+    names_earlier =
+        let long = length-take-le T.count T.nodes (omega (arith, fits)) in
+        subst NamesEarlier (sym (take_more_set T.nodes T.count n fits))
+        (names_push (take T.count T.nodes) n run.names (subst (λ i. NamesBelow i n) (sym long) names))
 
     -- The round goes on, if the pair is not one that is asked for.
     goes_on : (eqb a R.one.kind && not (test t R.other)) ≡ false → Running R (added T a t n)
     goes_on asked =
         record {
-          rooms = (length-set T.found a _ ∙ run.rooms.0, sized);
-          many = omega (arith, one_more (count T), count_new n);
+          rooms = (length-set T.nodes T.count n ∙ run.rooms.0, length-set T.found a _ ∙ run.rooms.1, sized);
+          many = omega (arith, one_more T.count);
           names = names_earlier;
           there = λ b s h. elim (marked_which n b s h) [
-            | inl old ↦ subst (λ x. x < count (added T a t n)) (sym (node_kept n b s old)) (omega (arith, run.there b s old, count_new n))
+            | inl old ↦ subst (λ x. x < T.count + 1) (sym (node_kept n b s old)) (omega (arith, run.there b s old))
             | inr e ↦ there_new b s e.0 e.1
           ];
           papers = papers;
           clean = λ s h. elim (marked_which n R.one.kind s h) [ inl old ↦ run.clean s old | inr e ↦ subst (λ x. test x R.other ≡ true) (sym e.1) (taken e.0) ];
-          seen_there = λ b i l. omega (arith, run.seen_there b i l, count_new n);
+          seen_there = λ b i l. omega (arith, run.seen_there b i l);
           seen = λ b i l. subst (HasPaper (one_of R) (two_of R) R.depth b (mark_at (minimal_at R.seen b) i).set) (sym (paper_before _ (run.seen_there b i l))) (run.seen b i l);
         }
       where
@@ -132,14 +135,14 @@ module _ (R : Round) (T : Table) (a t : ℕ) (run : Running R T) (here : a < 4) 
             elim (cases_eq b a) [
               | inl e ↦
                   subst (λ x. length (found_at (added T a t n).found x).nodes ≡ 16) (sym e)
-                  (ap (λ f. length f.nodes) (found_here T.found a t (count T) inside) ∙ length-set (found_at T.found a).nodes t (count T) ∙ run.rooms.1 a here)
-              | inr ne ↦ ap (λ f. length f.nodes) (found_other T.found a t (count T) inside b ne) ∙ run.rooms.1 b l
+                  (ap (λ f. length f.nodes) (found_here T.found a t T.count inside) ∙ length-set (found_at T.found a).nodes t T.count ∙ run.rooms.2 a here)
+              | inr ne ↦ ap (λ f. length f.nodes) (found_other T.found a t T.count inside b ne) ∙ run.rooms.2 b l
             ]
 
-        there_new : (b s : ℕ) → b ≡ a → s ≡ t → node_of (added T a t n) b s < count (added T a t n)
+        there_new : (b s : ℕ) → b ≡ a → s ≡ t → node_of (added T a t n) b s < T.count + 1
         there_new b s p q =
-            subst (λ x. node_of (added T a t n) x s < count (added T a t n)) (sym p)
-            (subst (λ x. node_of (added T a t n) a x < count (added T a t n)) (sym q) (omega (arith, node_new n, count_new n)))
+            subst (λ x. node_of (added T a t n) x s < T.count + 1) (sym p)
+            (subst (λ x. node_of (added T a t n) a x < T.count + 1) (sym q) (omega (arith, node_new n)))
 
         papers : (b s : ℕ) → Marked (added T a t n) b s →
             HasPaper (one_of R) (two_of R) (suc R.depth) b s (paper_of (added T a t n) (node_of (added T a t n) b s))
@@ -165,10 +168,11 @@ module _ (R : Round) (T : Table) (a t : ℕ) (run : Running R T) (here : a < 4) 
     stops : (eqb a R.one.kind && not (test t R.other)) ≡ true → Stopped R (added T a t n)
     stops asked =
         let parts = and_parts (eqb a R.one.kind) (not (test t R.other)) asked in
-        let last : paper_of (added T a t n) (count (added T a t n) - 1) ≡ node_paper (papers_of T) n = ap (paper_of (added T a t n)) (omega (arith, count_new n)) ∙ paper_last in
+        let last : paper_of (added T a t n) (T.count + 1 - 1) ≡ node_paper (papers_of T) n = ap (paper_of (added T a t n)) (omega arith) ∙ paper_last in
         record {
-          some = omega (arith, count_new n);
-          few = omega (arith, room_left, count_new n);
+          room = length-set T.nodes T.count n ∙ run.rooms.0;
+          some = omega arith;
+          few = omega (arith, room_left);
           names = names_earlier;
           last = subst (λ d. Rattle.pairs.specs.Laws.Against (one_of R) R.one.kind (two_of R) R.other d) (sym last)
               (record {
@@ -182,9 +186,9 @@ module _ (R : Round) (T : Table) (a t : ℕ) (run : Running R T) (here : a < 4) 
     pub tried : (r : Bool) → r ≡ (eqb a R.one.kind && not (test t R.other)) → Tried R T (added T a t n) (MarkedAt a t) r
     tried true e = stops (sym e)
     tried false e =
-        (goes_on (sym e), record { more = omega (arith, count_new n); kept = marked_kept n; still = λ q. absurd (omega (arith, q, count_new n)) }, marked_new n)
+        (goes_on (sym e), record { more = omega arith; kept = marked_kept n; still = λ q. absurd (omega arith) }, marked_new n)
 
 -- A table of these parts is the table added to.
-pub added_is : (T U : Table) (a t : ℕ) (n : Node) → U.nodes.items ≡ T.nodes.items ++ n ∷ [] →
-    U.found ≡ set T.found a (with_set (found_at T.found a) t (count T)) → added T a t n ≡ U
-added_is T U a t n ns fs = λ i. record { nodes = record { items = sym ns i }; found = sym fs i }
+pub added_is : (T U : Table) (a t : ℕ) (n : Node) → U.count ≡ T.count + 1 → U.nodes ≡ set T.nodes T.count n →
+    U.found ≡ set T.found a (with_set (found_at T.found a) t T.count) → added T a t n ≡ U
+added_is T U a t n c ns fs = λ i. record { count = sym c i; nodes = sym ns i; found = sym fs i }

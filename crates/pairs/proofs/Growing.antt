@@ -2,7 +2,7 @@
 use Rattle.std.proofs.Common.{◌≡◌, ℕ, refl, ◌∙◌, arith}
 use Rattle.pairs.specs.declared.table.Table.{Table}
 use Rattle.pairs.specs.Searches.{Grown}
-use Rattle.pairs.specs.Tables.{count, HasUnder}
+use Rattle.pairs.specs.Tables.{HasUnder}
 
 pub grown_none : (T : Table) → Grown T T
 grown_none T = record { more = omega arith; kept = λ a t h. h; still = λ e. refl }
@@ -13,8 +13,8 @@ grown_then {T} {U} {V} g h =
       more = omega (arith, g.more, h.more);
       kept = λ a t m. h.kept a t (g.kept a t m);
       still = λ e.
-          let first : count T ≡ count U = omega (arith, g.more, h.more) in
-          let then : count U ≡ count V = omega (arith, g.more, h.more) in
+          let first : T.count ≡ U.count = omega (arith, g.more, h.more) in
+          let then : U.count ≡ V.count = omega (arith, g.more, h.more) in
           h.still then ∙ g.still first;
     }
 

@@ -1,6 +1,6 @@
 -- The papers of nodes, one node more.
-use Rattle.std.proofs.Common.{◌≡◌, ℕ, ◌+◌, ◌<◌, List, [], ◌∷◌, ◌++◌, length, get_or, refl, ap, ◌∙◌, arith}
-use Rattle.std.proofs.lemmas.List.{length_push, get_or_append_left, get_or_push}
+use Rattle.std.proofs.Common.{◌≡◌, ℕ, ◌+◌, ◌<◌, List, [], ◌∷◌, ◌++◌, length, get_or, take, set, refl, ap, ◌∙◌, arith}
+use Rattle.std.proofs.lemmas.List.{length_push, length-take-le, take_more_set, get_or_append_left, get_or_push}
 use Rattle.papers.specs.Paper.{Paper, num}
 use Rattle.pairs.specs.declared.node.Node.{Node}
 use Rattle.pairs.specs.Nodes.{node_paper, told_onto, told, Appending}
@@ -18,15 +18,21 @@ unfolding told_onto
 onto_length ds [] = omega arith
 onto_length ds (n ∷ ns) = onto_length (ds ++ node_paper ds n ∷ []) ns ∙ omega (arith, length_push ds (node_paper ds n))
 
-told_length : (ns : List Node) → length (told ns) ≡ length ns
+pub told_length : (ns : List Node) → length (told ns) ≡ length ns
 told_length ns = onto_length [] ns ∙ omega arith
 
--- Nodes, with one put behind them.
-module _ (ns : List Node) (n : Node) where
-  pub told_before : (k : ℕ) → k < length ns → get_or (told (ns ++ n ∷ [])) k (num 0) ≡ get_or (told ns) k (num 0)
-  told_before k l =
-      ap (λ ds. get_or ds k (num 0)) (appending ns n)
-      ∙ get_or_append_left (told ns) (node_paper (told ns) n ∷ []) (num 0) k (omega (arith, told_length ns))
+-- The nodes at the front of an array, with one put behind them.
+module _ (ns : List Node) (i : ℕ) (n : Node) (room : i < length ns) where
+  pub told_more : told (take (i + 1) (set ns i n)) ≡ told (take i ns) ++ node_paper (told (take i ns)) n ∷ []
+  told_more = ap told (take_more_set ns i n room) ∙ appending (take i ns) n
 
-  pub told_last : get_or (told (ns ++ n ∷ [])) (length ns) (num 0) ≡ node_paper (told ns) n
-  told_last = ap (λ ds. get_or ds (length ns) (num 0)) (appending ns n) ∙ get_or_push (told ns) (node_paper (told ns) n) (num 0) (length ns) (told_length ns)
+  told_count : length (told (take i ns)) ≡ i
+  told_count = told_length (take i ns) ∙ length-take-le i ns (omega arith)
+
+  pub told_before : (k : ℕ) → k < i → get_or (told (take (i + 1) (set ns i n))) k (num 0) ≡ get_or (told (take i ns)) k (num 0)
+  told_before k l =
+      ap (λ ds. get_or ds k (num 0)) told_more
+      ∙ get_or_append_left (told (take i ns)) (node_paper (told (take i ns)) n ∷ []) (num 0) k (omega (arith, told_count))
+
+  pub told_last : get_or (told (take (i + 1) (set ns i n))) i (num 0) ≡ node_paper (told (take i ns)) n
+  told_last = ap (λ ds. get_or ds i (num 0)) told_more ∙ get_or_push (told (take i ns)) (node_paper (told (take i ns)) n) (num 0) i told_count

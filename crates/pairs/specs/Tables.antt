@@ -1,5 +1,5 @@
 -- What a table holds: the pairs found, each with its node. Assumes nothing: these are definitions.
-use Rattle.std.specs.Prelude.{◌≡◌, ℕ, zero, suc, ◌+◌, ◌^◌, ◌<◌, Bool, true, List, [], length, bit_or, slice_index, slice_index_or, slice_set}
+use Rattle.std.specs.Prelude.{◌≡◌, ℕ, zero, suc, ◌+◌, ◌^◌, ◌<◌, Bool, true, List, [], length, take, bit_or, slice_index, slice_index_or, slice_set}
 use Rattle.arrayvec.specs.ArrayVec.{ArrayVec}
 use Rattle.papers.specs.Paper.{Paper, num}
 use Rattle.taking.specs.Masks.{bit, test}
@@ -21,12 +21,9 @@ Marked T a t = test (found_at T.found a).sets t ≡ true
 abbrev pub node_of : Table → ℕ → ℕ → ℕ
 node_of T a t = slice_index (found_at T.found a).nodes t
 
--- How many nodes it has, and their papers.
-abbrev pub count : Table → ℕ
-count T = length T.nodes.items
-
+-- The papers of its nodes.
 abbrev pub papers_of : Table → List Paper
-papers_of T = told T.nodes.items
+papers_of T = told (take T.count T.nodes)
 
 abbrev pub paper_of : Table → ℕ → Paper
 paper_of T i = slice_index_or (papers_of T) i (num 0)

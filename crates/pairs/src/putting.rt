@@ -3,7 +3,7 @@ ghost use Rattle.std.specs.Prelude.{◌≡◌, suc, ◌<◌, not, ◌&&◌, ◌=
 ghost use Rattle.taking.specs.Masks.{test};
 ghost use Rattle.pairs.specs.Nodes.{NamesBelow, node_paper};
 ghost use Rattle.pairs.specs.Rounds.{HasPaper};
-ghost use Rattle.pairs.specs.Tables.{count, MarkedAt, HasUnder, papers_of};
+ghost use Rattle.pairs.specs.Tables.{MarkedAt, HasUnder, papers_of};
 ghost use Rattle.pairs.specs.Searches.{one_of, two_of, Running, Tried};
 
 use crate::node::Node;
@@ -16,7 +16,7 @@ use taking::holds;
 pub(crate) fn put(round: &Round<'_, '_>, table: &mut Table, pair: Pair, node: Node) -> bool
     requires running { Running round.now table.old }
     requires new { HasUnder table.old pair.kind pair.set → ⊥ }
-    requires names { NamesBelow (count table.old) node }
+    requires names { NamesBelow table.old.count node }
     requires paper { HasPaper (one_of round.now) (two_of round.now) (suc round.now.depth) pair.kind pair.set (node_paper (papers_of table.old) node) }
     ensures { Tried round.now table.old table.new (MarkedAt pair.kind pair.set) result }
 {

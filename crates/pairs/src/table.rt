@@ -1,7 +1,6 @@
 // What has been found so far: which pairs of a kind of the first form and a set of kinds of the second have a paper, and the paper's node.
 
 use crate::node::{NODES, Node};
-use arrayvec::ArrayVec;
 
 // How many kinds the first form has at most.
 pub(crate) const KINDS: usize = 4;
@@ -23,9 +22,11 @@ pub(crate) struct Found {
     pub(crate) nodes: [u8; SETS],
 }
 
-// The nodes, each with its own pair; and what was found of each kind.
-#[derive(Drop)]
+// So many nodes at the front, each with its own pair; and what was found of each kind. The nodes are an array with how many, and no
+// `ArrayVec`: a table is public and `Copy`, which an `ArrayVec` is not.
+#[derive(Clone, Copy)]
 pub struct Table {
-    pub nodes: ArrayVec<Node, NODES>,
+    pub count: usize,
+    pub nodes: [Node; NODES],
     pub(crate) found: [Found; KINDS],
 }

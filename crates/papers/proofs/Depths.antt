@@ -1,8 +1,8 @@
--- What is read is no deeper than its row is long, whatever is made of it. Assumes nothing.
-use Rattle.std.proofs.Common.{◌≡◌, ℕ, suc, ◌+◌, ◌^◌, ◌<◌, ◌≤◌, List, ◌∷◌, ◌++◌, length, refl, ap, ◌∙◌, subst, arith}
+-- What is read is no deeper than allowed, and no deeper than its row is long, whatever is made of it. Assumes nothing.
+use Rattle.std.proofs.Common.{◌≡◌, ℕ, suc, ◌+◌, ◌^◌, ◌<◌, ◌≤◌, List, ◌∷◌, length, refl, ap, ◌∙◌, subst, arith}
 use Rattle.std.proofs.lemmas.List.{length-append}
 use Rattle.papers.specs.declared.shape.Shape.TheVariants.{List as ListShape, Record}
-use Rattle.papers.specs.Reading.{done, into, read_paper}
+use Rattle.papers.specs.Reading.{done, into, read_list, read_record, read_paper}
 use Rattle.papers.specs.Paper.{Paper, num, items, fields, Papers, no_items, item, Fields, no_fields, field, deep, all_deep, fields_deep}
 use Rattle.papers.specs.Row.{row_of, rows_of, field_rows}
 use Rattle.papers.proofs.Outcomes.{into_done}
@@ -10,6 +10,20 @@ use Rattle.papers.proofs.Standing.{paper_read}
 use Rattle.papers.proofs.Steps.{opens_list, opens_record}
 use Rattle.papers.proofs.Loops.{list_read, record_read}
 
+-- no deeper than allowed
+pub list_flat : (n : ℕ) (xs : List ℕ) (v : ℕ) (rest : List ℕ) → into all_deep (read_list (read_paper n) xs) ≡ done v rest → v ≤ n
+unfolding deep read_paper
+list_flat n xs v rest e =
+    let p = into_done all_deep (read_list (read_paper n) xs) v rest e in
+    omega (arith, p.2, (paper_read (suc n) (1 ∷ xs) (items p.0) rest (ap (into items) p.1)).flat)
+
+pub record_flat : (n : ℕ) (xs : List ℕ) (v : ℕ) (rest : List ℕ) → into fields_deep (read_record (read_paper n) xs) ≡ done v rest → v ≤ n
+unfolding deep read_paper
+record_flat n xs v rest e =
+    let p = into_done fields_deep (read_record (read_paper n) xs) v rest e in
+    omega (arith, p.2, (paper_read (suc n) (2 ∷ xs) (fields p.0) rest (ap (into fields) p.1)).flat)
+
+-- no deeper than its row is long
 mutual
   unfolding deep row_of
 

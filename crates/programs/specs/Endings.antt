@@ -1,5 +1,5 @@
 -- How a program ends. Assumes nothing.
-use Rattle.std.specs.Prelude.{◌≡◌, ℕ, Bool, true, false}
+use Rattle.std.specs.Prelude.{◌≡◌, ℕ, ◌<◌, ◌⊎◌, Bool, true, false, List, length}
 use Rattle.std.specs.Process.{exit_status}
 use Rattle.std.specs.declared.process.ExitCode.{ExitCode}
 use Rattle.programs.specs.declared.program.Answer.{Answer}
@@ -14,3 +14,7 @@ status_after told answer = 0
 abbrev pub Ended : (help told : Bool) → (Answer → Type 0) → ExitCode → Type 0
 Ended true told Answers status = exit_status status ≡ 0
 Ended false told Answers status = (answer : Answer) × Answers answer × (exit_status status ≡ status_after told answer)
+
+-- why a run failed: help was asked for; there are too few words or too many; or the program's answer failed so
+abbrev pub Failed : {W E : Type 0} → (least most : ℕ) → (help : Bool) → List W → (E → Type 0) → E → Type 0
+Failed least most help words Fails error = (help ≡ true) ⊎ ((length words < least) ⊎ ((most < length words) ⊎ Fails error))

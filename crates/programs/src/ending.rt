@@ -2,8 +2,11 @@
 ghost use Rattle.std.specs.Prelude.{◌≡◌, MatchResult};
 ghost use Rattle.std.specs.Process.{exit_status};
 
-use std::fmt::Display;
+use std::fmt::{Display, InlineText};
 use std::process::ExitCode;
+
+// How many bytes of an error's text are told; a longer text is cut and ends in three dots.
+const TOLD: usize = 120;
 
 // The status that a run ended with; an error is told on standard error, and makes it 1.
 pub fn finish<E: Display + Drop>(
@@ -16,7 +19,8 @@ pub fn finish<E: Display + Drop>(
     match res {
         Ok(status) => status,
         Err(error) => {
-            let _ = eprintln!(rt; "{program}: {error}");
+            let text = InlineText::<{ TOLD }>::of(error);
+            let _ = eprintln!(rt; "{program}: {}", text.as_str());
             ExitCode::FAILURE
         }
     }

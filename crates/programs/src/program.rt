@@ -1,5 +1,5 @@
 // What all programs do alike.
-ghost use Rattle.std.specs.Prelude.{◌≡◌, ◌≤◌, false, length, vec_len, IfOk, OnOk, Ok};
+ghost use Rattle.std.specs.Prelude.{◌≡◌, ◌≤◌, false, length, vec_len, IfOk, IfErr, OnOk, Ok, Err};
 ghost use Rattle.std.specs.Process.{exit_status};
 
 use crate::ending::finish;
@@ -32,7 +32,7 @@ pub enum Answer {
 }
 
 impl Program {
-    ghost use Rattle.programs.specs.Endings.{Ended};
+    ghost use Rattle.programs.specs.Endings.{Ended, Failed};
 
     // Runs it: `answer` gets the words, which are as many as it takes. That `answer` may be called so is all that is asked; a function
     // that counts on so many words says no more. The command line comes from outside, so no clause can say which status it is; that
@@ -62,6 +62,7 @@ impl Program {
         F: FnOnce(&HostRuntime, &[String]) -> Result<Answer, E>,
         requires { (words : _) → self.now.least ≤ length words.now → length words.now ≤ self.now.most → F.pre answer rt words }
         ensures counted { OnOk result (command.now.help ≡ false → (self.now.least ≤ vec_len command.now.words) × (vec_len command.now.words ≤ self.now.most)) }
+        ensures failed { IfErr result (Failed self.now.least self.now.most command.now.help command.now.words.items (λ error. (words : _) × (words.now ≡ command.now.words.items) × F.post answer rt.entry words (Err error))) }
         ensures ended { IfOk result (λ status. Ended command.now.help command.now.exit_code (λ given. (words : _) × (words.now ≡ command.now.words.items) × F.post answer rt.entry words (Ok given)) status) }
     {
         if command.help {

@@ -1,10 +1,21 @@
 -- What a block holds after each step. Assumes nothing.
-use Rattle.std.proofs.Common.{◌≡◌, ℕ, ◌+◌, ◌≤◌, List, [], ◌++◌, length, take, drop, sym, ap, ◌∙◌, arith, rules}
+use Rattle.std.proofs.Common.{◌≡◌, ℕ, ◌+◌, ◌≤◌, List, [], ◌++◌, length, take, drop, sym, ap, ◌∙◌, append_assoc, append-nil, arith, rules}
 use borrow.Rule.Slice.PartMut.{put_mid}
 use Rattle.std.proofs.lemmas.List.{drop-drop, same_lists, places}
 use Rattle.std.proofs.lemmas.Slice.{between_is}
 use Rattle.std.specs.List.{between}
 use Rattle.take_papers.specs.Held.{GoesOn}
+
+-- the same bytes go on with none
+pub stays : (before after : List ℕ) → after ≡ before → GoesOn before after
+stays before after e = ([], e ∙ sym (append-nil before))
+
+-- what goes on, and on again
+pub goes_further : (a b c : List ℕ) → GoesOn a b → GoesOn b c → GoesOn a c
+goes_further a b c (p, e) (q, f) = (p ++ q, f ∙ ap (λ l. l ++ q) e ∙ append_assoc a p q)
+
+pub goes_on_from : (a b c : List ℕ) → b ≡ a → GoesOn b c → GoesOn a c
+goes_on_from a b c e h = goes_further a b c (stays a b e) h
 
 -- without the first bytes
 pub skipped : (bytes : List ℕ) (start end n : ℕ) → between (start + n) end bytes ≡ drop n (between start end bytes)

@@ -1,6 +1,6 @@
 // Bytes that are read ahead, a large block at a time.
-ghost use Rattle.std.specs.Prelude.{◌≡◌, ℕ, ◌+◌, ◌-◌, ◌≤◌, List, [], length, take, drop, IfOk};
-ghost use Rattle.take_papers.specs.Held.{GoesOn};
+ghost use Rattle.std.specs.Prelude.{◌≡◌, ◌+◌, ◌-◌, ◌≤◌, [], length, take, drop, IfOk};
+ghost use Rattle.take_papers.specs.Held.{Holding, GoesOn};
 
 use std::io;
 use std::io::Read;
@@ -20,9 +20,9 @@ pub(crate) struct Block {
 }
 
 impl Model for Block {
-    ghost Value = { List ℕ };
+    ghost Value = { Holding };
 
-    ghost view = { λ block. take (block.end - block.start) (drop block.start block.bytes) };
+    ghost view = { λ block. record { before = block.start; bytes = take (block.end - block.start) (drop block.start block.bytes) } };
 
     ghost invariant = { λ block. (block.start ≤ block.end) × (block.end ≤ 65536) };
 }
@@ -30,7 +30,7 @@ impl Model for Block {
 impl Block {
     // A block that holds nothing.
     pub(crate) fn new() -> Block
-        ensures { result ≡ [] }
+        ensures { result ≡ record { before = 0; bytes = [] } }
     {
         Block {
             bytes: [0; ROOM],
@@ -41,7 +41,7 @@ impl Block {
 
     // What it holds.
     pub(crate) fn held(&self) -> &[u8]
-        ensures { result.now ≡ self.now }
+        ensures { result.now ≡ self.now.bytes }
     {
         let (start, end) = (self.start, self.end);
         &self.bytes[start..end]
@@ -49,8 +49,8 @@ impl Block {
 
     // Lets go of the first bytes that it holds.
     pub(crate) fn skip(&mut self, count: usize)
-        requires { count ≤ length self.old }
-        ensures { self.new ≡ drop count self.old }
+        requires { count ≤ length self.old.bytes }
+        ensures { self.new.bytes ≡ drop count self.old.bytes }
     {
         self.start += count;
     }
@@ -58,7 +58,7 @@ impl Block {
     // Reads on until it holds so many bytes or the input ends.
     pub(crate) fn fill<R: Read>(&mut self, input: &mut R, least: usize) -> io::Result<()>
         requires { least ≤ 65536 }
-        ensures { GoesOn self.old self.new }
+        ensures { GoesOn self.old.bytes self.new.bytes }
     {
         if least <= self.held().len() {
             return Ok(());
@@ -74,7 +74,8 @@ impl Block {
 
     // Makes all the room there is behind what it holds.
     fn move_to_front(&mut self)
-        ensures { self.new ≡ self.old }
+        ensures same { self.new.bytes ≡ self.old.bytes }
+        ensures front { self.new.before ≡ 0 }
     {
         let (start, end) = (self.start, self.end);
         self.bytes.copy_within(start..end, 0);
@@ -84,8 +85,9 @@ impl Block {
 
     // Reads once, as much as there is room for behind what it holds, and says how many bytes came.
     fn read_more<R: Read>(&mut self, input: &mut R) -> io::Result<usize>
-        ensures more { GoesOn self.old self.new }
-        ensures count { IfOk result (λ n. length self.new ≡ length self.old + n) }
+        ensures more { GoesOn self.old.bytes self.new.bytes }
+        ensures count { IfOk result (λ n. length self.new.bytes ≡ length self.old.bytes + n) }
+        ensures before { self.new.before ≡ self.old.before }
     {
         let end = self.end;
         let count = input.read(&mut self.bytes[end..])?;

@@ -37,7 +37,7 @@ fn count_of(bytes: &[u8]) -> Result<Option<usize>, Broken>
 impl<R: Read> Papers<R> {
     // The papers of an input of which nothing is read yet.
     pub(crate) fn new(input: R) -> Papers<R>
-        ensures { result.block ≡ [] }
+        ensures { result.block.bytes ≡ [] }
     {
         Papers {
             input,
@@ -47,7 +47,7 @@ impl<R: Read> Papers<R> {
 
     // Writes the next paper's numbers to the front of the row, and says how many; or none where the stream ends.
     pub(crate) fn next_into(&mut self, row: &mut [u64; MOST]) -> Result<Option<usize>, Broken>
-        ensures { Comes self.old.block self.new.block row.old row.new result }
+        ensures { Comes self.old.block.bytes self.new.block.bytes row.old row.new result }
     {
         self.block.fill(&mut self.input, 4).map_err(Broken::Unread)?;
         let Some(count) = count_of(self.block.held())? else {

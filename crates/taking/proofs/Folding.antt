@@ -37,7 +37,7 @@ unfolding kinds_of
 test_kinds f d = test_whole (takes d f) (length f) (none_there d f)
 
 -- the kinds of which a way passes a test are those of which a listed way does, where only ways of the listed shape pass
-abbrev passes : (Way → Bool) → Way → ℕ → Bool
+abbrev pub passes : (Way → Bool) → Way → ℕ → Bool
 passes p w i = p w
 
 any_listed : (s : Shape) (f : Form) (ws : List WayAt) → Lists s f ws → (p : Way → Bool) → ((w : Way) → p w ≡ true → shape_taken w ≡ s) →

@@ -3,7 +3,7 @@ use Rattle.std.proofs.Common.{◌≡◌, ℕ, zero, suc, ◌+◌, ◌<◌, Bool,
 use Rattle.std.specs.Bool.{then_some}
 use Rattle.std.specs.List.{list_all, find as first_of, enumerate_from}
 use Rattle.std.specs.Option.{MatchOption, option_map}
-use Rattle.std.proofs.lemmas.List.{get_or-drop, drop-drop, length-drop}
+use Rattle.std.proofs.lemmas.List.{at_drop_more, get_or-drop, drop-drop, length-drop}
 use Rattle.std.proofs.lemmas.Bool.{false≢true}
 use Rattle.papers.specs.declared.shape.Shape.TheVariants.{Record}
 use Rattle.forms.specs.declared.way.Place.{Place}
@@ -16,6 +16,7 @@ use Rattle.forms.proofs.Views.{way_keeps, way_place}
 use Rattle.taking.specs.Masks.{test}
 use Rattle.taking.specs.Advance.{GoesOn, Advances, StopsAt}
 use Rattle.taking.specs.Takes.{Found, at, nowhere, find, none_must, record_takes}
+use Rattle.taking.proofs.Finding.{find_here as here, find_stops as stops_here}
 
 -- a way that is a record
 pub record_way : (q : List Place → Bool) (w : Way) → shape_of (shape w) ≡ Record → record_takes q w ≡ q (places_of w)
@@ -28,6 +29,17 @@ pub all_need_not : (ps : List Place) → list_all (λ p. not p.must) ps ≡ none
 unfolding none_must
 all_need_not [] = refl
 all_need_not (p ∷ ps) = ap (λ b. not p.must && b) (all_need_not ps)
+
+-- the search for a name from place i on, which is p
+module _ (ps : List Place) (i : ℕ) (p : Place) (there : i < length ps) (is : p ≡ get_or ps i no_place) where
+  from_place : (x : ℕ) → find x (drop i ps) ≡ find x (p ∷ drop (i + 1) ps)
+  from_place x = at_drop_more (find x) ps i no_place there ∙ ap (λ q. find x (q ∷ drop (i + 1) ps)) (sym is)
+
+  pub find_here : (x : ℕ) → p.name ≡ x → find x (drop i ps) ≡ at p.kind (drop (i + 1) ps)
+  find_here x e = from_place x ∙ here x p (drop (i + 1) ps) e
+
+  pub find_stops : (x : ℕ) → (p.name ≡ x → ⊥) → p.must ≡ true → find x (drop i ps) ≡ nowhere
+  find_stops x other m = from_place x ∙ stops_here x p (drop (i + 1) ps) other m
 
 -- the search for a name stops at a place, or passes it
 abbrev pub stops : ℕ → Place → Bool

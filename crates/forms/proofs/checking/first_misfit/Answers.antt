@@ -15,4 +15,4 @@ returns c =
     let fits = kind_fits c.args.laid.now.room c.args.laid.now.row.now in
     rw (← c.kinds.ensures)
     (from_zero c.kinds.result c.find.result (λ k. fits k ≡ false) (λ k. fits k ≡ true)
-    (first_from_Range _ _ _ _ _ _ c.find.ensures.ran (λ x q k. search (rules, tests)) (λ x q k. search (rules, tests))))
+    (first_from_Range _ _ _ _ _ _ c.find.ensures.ran (λ x q k. search (rules, tests)) (λ x q k. (search (rules, tests), grind (arith, tests)))))

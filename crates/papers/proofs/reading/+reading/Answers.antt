@@ -7,7 +7,7 @@ use Rattle.papers.proofs.Depths.{list_room, record_room}
 use Rattle.papers.proofs.reading.+reading.Goals as goal
 
 pub read_list-returns-in_err-count : goal.read_list-returns-in_err-count
-read_list-returns-in_err-count g t c = hands_on _ c.from_residual.ensures.1 c.in_err-count.ensures (list_none (g.F.Fold.of c.args.fold.now) _ _)
+read_list-returns-in_err-count g t c = hands_on _ c.from_residual.ensures.1 c.in_err-count.ensures (list_none _ _ _)
 
 pub read_list-loop-init : goal.read_list-loop-init
 read_list-loop-init g t c = list_begins (omega arith) c.in_ok-count.ensures c.no_papers-papers.ensures
@@ -15,7 +15,7 @@ read_list-loop-init g t c = list_begins (omega arith) c.in_ok-count.ensures c.no
 pub read_list-returns-in_err-paper : goal.read_list-returns-in_err-paper
 read_list-returns-in_err-paper g t c =
     hands_on _ c.from_residual-in_err-paper.ensures.1 c.in_err-paper.ensures
-    (list_fails (c.in_ok-count.count.value - (c.loop.counter + 1)) (omega arith) c.loop.invariant)
+    (list_fails (g.F.Fold.of c.args.fold.now) (c.in_ok-count.count.value - (c.loop.counter + 1)) (omega arith) c.loop.invariant)
 
 pub read_list-loop-preserved : goal.read_list-loop-preserved
 read_list-loop-preserved g t c = list_goes_on (omega arith) (c.with_paper-papers.ensures c.loop.counter) c.loop.invariant c.in_ok-paper.ensures
@@ -57,7 +57,7 @@ pub read_paper-returns-in_ok-record-in-Record : goal.read_paper-returns-in_ok-re
 read_paper-returns-in_ok-record-in-Record g t c = opens_record _ c.in_ok-opening.ensures c.in-Record.is ∙ c.in_ok-record-in-Record.ensures
 
 pub read_record-returns-in_err-count : goal.read_record-returns-in_err-count
-read_record-returns-in_err-count g t c = hands_on _ c.from_residual.ensures.1 c.in_err-count.ensures (record_none (g.F.Fold.of c.args.fold.now) _ _)
+read_record-returns-in_err-count g t c = hands_on _ c.from_residual.ensures.1 c.in_err-count.ensures (record_none _ _ _)
 
 pub read_record-loop-init : goal.read_record-loop-init
 read_record-loop-init g t c = record_begins (omega arith) c.in_ok-count.ensures c.no_fields-so_far.ensures
@@ -75,7 +75,7 @@ read_record-read_paper-requires g t c =
 pub read_record-returns-in_err-inner : goal.read_record-returns-in_err-inner
 read_record-returns-in_err-inner g t c =
     hands_on _ c.from_residual-in_err-inner.ensures.1 c.in_err-inner.ensures
-    (field_fails (c.in_ok-count.count.value - (c.loop.counter + 1)) (omega arith) c.loop.invariant c.in_ok-name.ensures)
+    (field_fails (g.F.Fold.of c.args.fold.now) (c.in_ok-count.count.value - (c.loop.counter + 1)) (omega arith) c.loop.invariant c.in_ok-name.ensures)
 
 pub read_record-overflow_add-low : goal.read_record-overflow_add-low
 read_record-overflow_add-low g t c = omega (arith, name_below _ _ c.in_ok-name.ensures)
